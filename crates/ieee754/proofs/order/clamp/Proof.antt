@@ -1,0 +1,16 @@
+use Rattle.ieee754.proofs.order.clamp.Statement.{statement}
+use Rattle.ieee754.proofs.order.clamp.Tie as tie
+use Rattle.ieee754.proofs.order.clamp.Reads as reads
+use Rattle.ieee754.proofs.order.clamp.Lts as lts
+
+returns : tie.Need-returns
+returns c = simp (c .if1 .taken)
+
+returns-2 : tie.Need-returns-2
+returns-2 c = simp (c .before .if1 .left, c .if2 .taken)
+
+returns-3 : tie.Need-returns-3
+returns-3 c = simp (c .before .if1 .left, c .if2 .left)
+
+pub clamp-spec : {M : Type 1} → statement M
+clamp-spec = tie.close (tie.spec returns returns-2 returns-3)

@@ -1,0 +1,17 @@
+use Rattle.ieee754.proofs.Helping.{nan-yes, nan-no}
+use Rattle.ieee754.proofs.order.max.Statement.{statement}
+use Rattle.ieee754.proofs.order.max.Tie as tie
+use Rattle.ieee754.proofs.order.max.Reads as reads
+use Rattle.ieee754.proofs.order.max.Lts as lts
+
+returns : tie.Need-returns
+returns c = simp (nan-yes (c .before .args .x) (c .if1 .taken))
+
+returns-2 : tie.Need-returns-2
+returns-2 c = simp (nan-no (c .before .before .args .x) (c .before .if1 .left), c .if2 .taken)
+
+returns-3 : tie.Need-returns-3
+returns-3 c = simp (nan-no (c .before .before .args .x) (c .before .if1 .left), c .if2 .left)
+
+pub max-spec : {M : Type 1} → statement M
+max-spec = tie.close (tie.spec returns returns-2 returns-3)
