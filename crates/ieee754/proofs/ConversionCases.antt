@@ -13,6 +13,7 @@ use lib.Ieee.Fits.{down-pos, nearest-le, round-is}
 use lib.Ieee.Exact.{HasValue}
 use lib.Ieee.Nearest.{closest, closest-same, nearest-ge}
 use lib.Ieee.Scale.{round-same, overflow}
+use Rattle.rounding.proofs.Comparison.{Cmp, cmp, lt-or-le}
 use Rattle.ieee754.specs.Conversion.{convert}
 use Rattle.ieee754.proofs.Patterns.{size-is, units-bits, units-inf}
 use Rattle.ieee754.proofs.Fields.{signed, value-low, value-normal, value-top}
@@ -32,12 +33,12 @@ round-at s n k e = round-is binary32 s n (2 ^ 1074) ∙ ap (λ (j : ℕ). units 
 
 -- ---- less than half of the smallest value
 above-none : (b : ℕ) → 0 < b → (n : ℕ) → 2 * n < b → closest n b ≡ 0
-above-none b B n h = go (n / b) (n % b) (div-eq-of-lt (less n b h)) (mod-eq-of-lt (less n b h)) (compare (n % b * 2) b) (Rattle.ieee754.proofs.RoundingError.cmp (n % b * 2) b)
+above-none b B n h = go (n / b) (n % b) (div-eq-of-lt (less n b h)) (mod-eq-of-lt (less n b h)) (compare (n % b * 2) b) (cmp (n % b * 2) b)
   where
     less : (x y : ℕ) → 2 * x < y → x < y
     less x y h = omega arith
 
-    go : (q r : ℕ) → q ≡ 0 → r ≡ n → (o : Ordering) → Rattle.ieee754.proofs.RoundingError.Cmp o (r * 2) b → nearest q o ≡ 0
+    go : (q r : ℕ) → q ≡ 0 → r ≡ n → (o : Ordering) → Cmp o (r * 2) b → nearest q o ≡ 0
     go q r e f Ordering·lt c = e
     go q r e f Prim.Native.Nat.Ordering·eq c = absurd (no r n b f c h)
       where
@@ -146,16 +147,9 @@ unfolding ofBits
 inf-bits true = refl
 inf-bits false = refl
 
-split : (a c : ℕ) → (a < c) ⊎ (c ≤ a)
-split a c = go (ltb a c) (ltb→lt a c) (nltb→le a c)
-  where
-    go : (t : Bool) → (T t → a < c) → (T (not t) → c ≤ a) → (a < c) ⊎ (c ≤ a)
-    go true p q = inl (p tt)
-    go false p q = inr (q tt)
-
 -- at the top the carry makes the pattern of the infinity
 pub bits-32 : (s : Bool) (r k : ℕ) → r ≤ 2 ^ 24 → (k ≡ 0) ⊎ (2 ^ 23 ≤ r) → k ≤ 253 → units binary32 s r k ≡ ofBits binary32 (cond s (2 ^ 31) 0 + (k * 2 ^ 23 + r))
-bits-32 s r k h d K = elim (split (r * 2 ^ k) (2 ^ 277)) [
+bits-32 s r k h d K = elim (lt-or-le (r * 2 ^ k) (2 ^ 277)) [
   | inl l ↦ units-bits binary32 s r k h d l
   | inr g ↦
       units-inf binary32 s r k g
@@ -181,7 +175,7 @@ bits-32 s r k h d K = elim (split (r * 2 ^ k) (2 ^ 277)) [
 -- ---- by the pattern a of the `f64` without its sign
 module _ (s : Bool) (a : ℕ) where
   x : Float
-  x = ofBits binary64 (signed s a)
+  x = ofBits binary64 (signed binary64 s a)
 
   m : ℕ
   m = a % 2 ^ 52 + 2 ^ 52
@@ -189,8 +183,8 @@ module _ (s : Bool) (a : ℕ) where
   by-value : 2 ^ 52 ≤ a → a < 0x7ff0_0000_0000_0000 → convert binary32 x ≡ round binary32 s (m * 2 ^ (a / 2 ^ 52 - 1)) (2 ^ 1074)
   unfolding x m
   by-value h k =
-      narrow-value (ofBits binary64 (signed s a)) s ((a % 2 ^ 52 + 2 ^ 52) * 2 ^ (a / 2 ^ 52 - 1))
-      (subst (λ (z : ℕ). HasValue (ofBits binary64 (signed s a)) s (z * 2 ^ (a / 2 ^ 52 - 1)) (2 ^ 1074)) (swap a) (value-normal s a h k))
+      narrow-value (ofBits binary64 (signed binary64 s a)) s ((a % 2 ^ 52 + 2 ^ 52) * 2 ^ (a / 2 ^ 52 - 1))
+      (subst (λ (z : ℕ). HasValue (ofBits binary64 (signed binary64 s a)) s (z * 2 ^ (a / 2 ^ 52 - 1)) (2 ^ 1074)) (swap a) (value-normal binary64 s a h k))
     where
       swap : (y : ℕ) → 2 ^ 52 + y % 2 ^ 52 ≡ y % 2 ^ 52 + 2 ^ 52
       swap y = omega arith
@@ -203,7 +197,7 @@ module _ (s : Bool) (a : ℕ) where
   unfolding m
   m-hi = omega arith
 
-  pub narrow-normal : 897 ≤ a / 2 ^ 52 → a < 0x47f0_0000_0000_0000 → ofBits binary32 (cond s (2 ^ 31) 0 + ((a / 2 ^ 52 - 897) * 2 ^ 23 + closest (a % 2 ^ 52 + 2 ^ 52) (2 ^ 29))) ≡ convert binary32 (ofBits binary64 (signed s a))
+  pub narrow-normal : 897 ≤ a / 2 ^ 52 → a < 0x47f0_0000_0000_0000 → ofBits binary32 (cond s (2 ^ 31) 0 + ((a / 2 ^ 52 - 897) * 2 ^ 23 + closest (a % 2 ^ 52 + 2 ^ 52) (2 ^ 29))) ≡ convert binary32 (ofBits binary64 (signed binary64 s a))
   unfolding x m
   narrow-normal h k =
       sym (by-value (e1 a h) (e2 a k) ∙ round-large s (a % 2 ^ 52 + 2 ^ 52) (a / 2 ^ 52) m-lo m-hi (e3 a h) h
@@ -221,7 +215,7 @@ module _ (s : Bool) (a : ℕ) where
       e4 : (y : ℕ) → y < 0x47f0_0000_0000_0000 → y / 2 ^ 52 - 897 ≤ 253
       e4 y h = omega arith
 
-  pub narrow-subnormal : 872 ≤ a / 2 ^ 52 → a / 2 ^ 52 < 897 → ofBits binary32 (cond s (2 ^ 31) 0 + closest (a % 2 ^ 52 + 2 ^ 52) (2 ^ (926 - a / 2 ^ 52))) ≡ convert binary32 (ofBits binary64 (signed s a))
+  pub narrow-subnormal : 872 ≤ a / 2 ^ 52 → a / 2 ^ 52 < 897 → ofBits binary32 (cond s (2 ^ 31) 0 + closest (a % 2 ^ 52 + 2 ^ 52) (2 ^ (926 - a / 2 ^ 52))) ≡ convert binary32 (ofBits binary64 (signed binary64 s a))
   unfolding x m
   narrow-subnormal h k =
       sym (by-value (e1 a h) (e2 a k) ∙ round-small s (a % 2 ^ 52 + 2 ^ 52) (a / 2 ^ 52) m-lo m-hi (e3 a h) k
@@ -243,10 +237,10 @@ module _ (s : Bool) (a : ℕ) where
   at-zero : units binary32 s 0 0 ≡ ofBits binary32 (cond s (2 ^ 31) 0 + 0)
   at-zero = bits-32 s 0 0 zero-le (inl refl) zero-le
 
-  pub narrow-tiny : a / 2 ^ 52 < 872 → ofBits binary32 (cond s (2 ^ 31) 0 + 0) ≡ convert binary32 (ofBits binary64 (signed s a))
+  pub narrow-tiny : a / 2 ^ 52 < 872 → ofBits binary32 (cond s (2 ^ 31) 0 + 0) ≡ convert binary32 (ofBits binary64 (signed binary64 s a))
   unfolding x m
-  narrow-tiny h = elim (split a (2 ^ 52)) [
-    | inl l ↦ sym (narrow-value (ofBits binary64 (signed s a)) s (a * 2 ^ 0) (value-low s a l) ∙ tiny s (a * 2 ^ 0) (lt-of-le-of-lt (le-of-eq (mul-one a)) (lt-of-lt-of-le l (lit≤ tt))) ∙ at-zero)
+  narrow-tiny h = elim (lt-or-le a (2 ^ 52)) [
+    | inl l ↦ sym (narrow-value (ofBits binary64 (signed binary64 s a)) s (a * 2 ^ 0) (value-low binary64 s a l) ∙ tiny s (a * 2 ^ 0) (lt-of-le-of-lt (le-of-eq (mul-one a)) (lt-of-lt-of-le l (lit≤ tt))) ∙ at-zero)
     | inr g ↦ sym (by-value g (e2 a h) ∙ tiny s ((a % 2 ^ 52 + 2 ^ 52) * 2 ^ (a / 2 ^ 52 - 1)) (lt-of-lt-of-le (shl-lt 53 (a / 2 ^ 52 - 1) m-hi) (pow-mono (e3 a h))) ∙ at-zero)
   ]
     where
@@ -260,14 +254,14 @@ module _ (s : Bool) (a : ℕ) where
   unfolding convert
   at-inf c e = subst (λ (z : ℕ). convert binary32 (cond (eqb z 0) (inf s) nan) ≡ inf s) (sym e) refl
 
-  pub narrow-large : 0x47f0_0000_0000_0000 ≤ a → a ≤ 0x7ff0_0000_0000_0000 → ofBits binary32 (cond s (2 ^ 31) 0 + 0x7f80_0000) ≡ convert binary32 (ofBits binary64 (signed s a))
+  pub narrow-large : 0x47f0_0000_0000_0000 ≤ a → a ≤ 0x7ff0_0000_0000_0000 → ofBits binary32 (cond s (2 ^ 31) 0 + 0x7f80_0000) ≡ convert binary32 (ofBits binary64 (signed binary64 s a))
   unfolding x m
-  narrow-large h k = elim (split a 0x7ff0_0000_0000_0000) [
+  narrow-large h k = elim (lt-or-le a 0x7ff0_0000_0000_0000) [
     | inl l ↦
         inf-bits s
         ∙ sym (by-value (e1 a h) l ∙ round-large s (a % 2 ^ 52 + 2 ^ 52) (a / 2 ^ 52) m-lo m-hi (e2 a h) (e3 a h)
         ∙ units-inf binary32 s (closest (a % 2 ^ 52 + 2 ^ 52) (2 ^ 29)) (a / 2 ^ 52 - 897) (le-trans (pow-mono (e4 a h)) (le-trans (le-of-eq (pow-add 2 23 (a / 2 ^ 52 - 897))) (mul-le-mul-right (2 ^ (a / 2 ^ 52 - 897)) (closest-ge (a % 2 ^ 52 + 2 ^ 52) m-lo)))))
-    | inr g ↦ inf-bits s ∙ sym (ap (convert binary32) (value-top s a g (e5 a k)) ∙ at-inf (a % 2 ^ 52) (e6 a g k))
+    | inr g ↦ inf-bits s ∙ sym (ap (convert binary32) (value-top binary64 s a g (e5 a k)) ∙ at-inf (a % 2 ^ 52) (e6 a g k))
   ]
     where
       e1 : (y : ℕ) → 0x47f0_0000_0000_0000 ≤ y → 2 ^ 52 ≤ y
@@ -293,7 +287,7 @@ small-pattern = closest-le
 
 -- ---- `rounded`: q, q + 1 or the even one, by how the rest compares with half of an even unit
 module _ (q r b : ℕ) (even : b ≡ 2 * (b / 2)) where
-  stays : (o : Ordering) → Rattle.ieee754.proofs.RoundingError.Cmp o (r * 2) b → r < b / 2 → q ≡ nearest q o
+  stays : (o : Ordering) → Cmp o (r * 2) b → r < b / 2 → q ≡ nearest q o
   stays Ordering·lt c h = refl
   stays Prim.Native.Nat.Ordering·eq c h = absurd (no h c)
     where
@@ -304,7 +298,7 @@ module _ (q r b : ℕ) (even : b ≡ 2 * (b / 2)) where
       no : r < b / 2 → b < r * 2 → ⊥
       no h c = omega arith
 
-  goes-up : (o : Ordering) → Rattle.ieee754.proofs.RoundingError.Cmp o (r * 2) b → b / 2 < r → q + 1 ≡ nearest q o
+  goes-up : (o : Ordering) → Cmp o (r * 2) b → b / 2 < r → q + 1 ≡ nearest q o
   goes-up Ordering·lt c h = absurd (no h c)
     where
       no : b / 2 < r → r * 2 < b → ⊥
@@ -315,7 +309,7 @@ module _ (q r b : ℕ) (even : b ≡ 2 * (b / 2)) where
       no h c = omega arith
   goes-up Prim.Native.Nat.Ordering·gt c h = omega arith
 
-  ties : (o : Ordering) → Rattle.ieee754.proofs.RoundingError.Cmp o (r * 2) b → b / 2 ≤ r → r ≤ b / 2 → q + q % 2 ≡ nearest q o
+  ties : (o : Ordering) → Cmp o (r * 2) b → b / 2 ≤ r → r ≤ b / 2 → q + q % 2 ≡ nearest q o
   ties Ordering·lt c h k = absurd (no h c)
     where
       no : b / 2 ≤ r → r * 2 < b → ⊥
@@ -344,8 +338,8 @@ module _ (m s : ℕ) (S : 0 < s) (H : s < 64) where
   pub unit-pos : 0 < u
   unit-pos = subst (λ (z : ℕ). 0 < z) (sym (unit-is s H)) (pow-pos s)
 
-  c : Rattle.ieee754.proofs.RoundingError.Cmp (compare (m % 2 ^ s * 2) (2 ^ s)) (m % 2 ^ s * 2) (2 ^ s)
-  c = Rattle.ieee754.proofs.RoundingError.cmp (m % 2 ^ s * 2) (2 ^ s)
+  c : Cmp (compare (m % 2 ^ s * 2) (2 ^ s)) (m % 2 ^ s * 2) (2 ^ s)
+  c = cmp (m % 2 ^ s * 2) (2 ^ s)
 
   pub rounded-lt : m % u < u / 2 → m / u ≡ closest m (2 ^ s)
   rounded-lt = subst (λ (z : ℕ). m % z < z / 2 → m / z ≡ closest m (2 ^ s)) (sym (unit-is s H)) (stays (m / 2 ^ s) (m % 2 ^ s) (2 ^ s) (unit-even s S) (compare (m % 2 ^ s * 2) (2 ^ s)) c)
@@ -359,37 +353,6 @@ module _ (m s : ℕ) (S : 0 < s) (H : s < 64) where
   pub quotient-le : m / u ≤ m
   quotient-le = native.Mathlib.Nat.div-le-self m u
 
--- ---- no NaN of binary32
-pub no-nan-32 : (s b : ℕ) → s < 2 → b ≤ 0x7f80_0000 → T (not (lib.Ieee.nanBits binary32 (b + s * 0x8000_0000)))
-no-nan-32 s b S h =
-    subst (λ (z : Bool). T (not z)) (sym (lib.Ieee.Bits.nanBits-above binary32 (b + s * 0x8000_0000)))
-    (lib.Dec.not-T (ltb (255 * 2 ^ 23) ((b + s * 0x8000_0000) % 2 ^ 31)) (λ t. no b s S h (ltb→lt (255 * 2 ^ 23) ((b + s * 0x8000_0000) % 2 ^ 31) t)))
-  where
-    no : (x s : ℕ) → s < 2 → x ≤ 0x7f80_0000 → 255 * 2 ^ 23 < (x + s * 0x8000_0000) % 2 ^ 31 → ⊥
-    no x s S h k = omega arith
-
--- ---- an `f64` that is no NaN, and the two parts of its pattern
-module _ (x : Float) (F : T (lib.Ieee.fits binary64 x)) (N : T (not (lib.Ieee.isNan x))) where
-  abbrev bits : ℕ
-  bits = lib.Ieee.toBits binary64 x
-
-  back : ofBits binary64 bits ≡ x
-  back = lib.Ieee.Bits.ofBits-toBits binary64 x F
-
-  pub no-more : bits % 2 ^ 63 ≤ 0x7ff0_0000_0000_0000
-  no-more =
-      nltb→le (2047 * 2 ^ 52) (bits % 2 ^ 63)
-      (subst (λ (z : Bool). T (not z)) (lib.Ieee.Bits.nanBits-above binary64 bits) (subst (λ (z : Bool). T (not z)) (sym (lib.Ieee.Bits.nanBits-is binary64 bits)) (subst (λ (z : Float). T (not (lib.Ieee.isNan z))) (sym back) N)))
-
-  pub plus : bits < 2 ^ 63 → ofBits binary64 (signed false (bits % 2 ^ 63)) ≡ x
-  plus h = ap (ofBits binary64) (zero-add (bits % 2 ^ 63) ∙ mod-eq-of-lt h) ∙ back
-
-  pub minus : 2 ^ 63 ≤ bits → ofBits binary64 (signed true (bits % 2 ^ 63)) ≡ x
-  minus h = ap (ofBits binary64) (join bits h (lib.Ieee.Bits.toBits-lt binary64 x F)) ∙ back
-    where
-      join : (b : ℕ) → 2 ^ 63 ≤ b → b < 2 ^ 64 → 2 ^ 63 + b % 2 ^ 63 ≡ b
-      join b h k = omega arith
-
-pub narrow-nan : nan ≡ convert binary32 nan
+pub convert-nan : nan ≡ convert binary32 nan
 unfolding convert
-narrow-nan = refl
+convert-nan = refl

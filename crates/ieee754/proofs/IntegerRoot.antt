@@ -11,7 +11,7 @@ use lib.Arith.{lt-one}
 use lib.Ieee.{Float, Format, prec, low, size, nearest, units}
 use lib.Ieee.Digits.{size-lt}
 use Rattle.ieee754.specs.SquareRoot.{rootDigits, isqrt, roundRoot, NearestRoot}
-use Rattle.ieee754.proofs.RoundingError.{Cmp, cmp}
+use Rattle.rounding.proofs.Comparison.{Cmp, cmp}
 use Rattle.ieee754.proofs.Patterns.{size-is}
 
 -- ---- squares

@@ -9,18 +9,12 @@ use lib.Dec.{T, ltb, ltb→lt, nltb→le, lit≤}
 use lib.Pow.{pow-add, pow-pos, pow-mono, shl-lt}
 use lib.Ieee.{Float, Format, binary32, binary64, prec, low, units, ofBits}
 use lib.Ieee.Exact.{HasValue, units-val}
+use Rattle.rounding.proofs.Comparison.{lt-or-le}
 use Rattle.ieee754.specs.SquareRoot.{NearestRoot, NearestValue, roundRoot, sqrt}
 use Rattle.ieee754.proofs.IntegerRoot.{root-at, some-root}
 use Rattle.ieee754.proofs.Fields.{signed, value-low, value-normal}
 use lib.Count.{leading-top}
 use Rattle.ieee754.proofs.SquareRootCases.{near-lo, near-hi, sqrt-value, M, scaled, M-lo, M-hi}
-
-split : (a c : ℕ) → (a < c) ⊎ (c ≤ a)
-split a c = go (ltb a c) (ltb→lt a c) (nltb→le a c)
-  where
-    go : (t : Bool) → (T t → a < c) → (T (not t) → c ≤ a) → (a < c) ⊎ (c ≤ a)
-    go true p q = inl (p tt)
-    go false p q = inr (q tt)
 
 sq-mul : (a b : ℕ) → a * b * (a * b) ≡ a * a * (b * b)
 sq-mul a b = mul-mul-mul-comm a b a b
@@ -120,13 +114,13 @@ module _ (f : Format) (M k n r : ℕ) (is : n ≡ M * (2 ^ k * 2 ^ k)) (lo : 2 ^
 
   pub nearest-root : NearestValue f n (r * 2 ^ k)
   nearest-root = record {
-    above = λ a j A h. elim (split j k) [
+    above = λ a j A h. elim (lt-or-le j k) [
       | inl l ↦ absurd (lt-irrefl (r * 2 ^ k) (native.Mathlib.Nat.lt-trans h (lt-of-lt-of-le (small a j A l) (mul-le-mul-right (2 ^ k) r-lo))))
       | inr g ↦
           subst (λ (z : ℕ). 4 * n < (r * 2 ^ k + z) * (r * 2 ^ k + z)) (sym (multiple a j g))
           (goes-above (a * 2 ^ (j - k)) (lt-of-mul-lt-mul-right (2 ^ k) (lt-of-lt-of-le h (le-of-eq (multiple a j g)))))
     ];
-    below = λ a j A h. elim (split j k) [
+    below = λ a j A h. elim (lt-or-le j k) [
       | inl l ↦ at-least (a * 2 ^ j) (small a j A l)
       | inr g ↦
           subst (λ (z : ℕ). (r * 2 ^ k + z) * (r * 2 ^ k + z) < 4 * n) (sym (multiple a j g))
@@ -158,8 +152,8 @@ at-parts x u m p v U lo hi P e =
     room : (x : ℕ) → x < 3072 → 54 + x / 2 ≤ 2098
     room x h = omega arith
 
-pub sqrt-is-nearest : (a : ℕ) → 0 < a → a < 0x7ff0_0000_0000_0000 → (u : ℕ) × HasValue (ofBits binary64 (signed false a)) false u (2 ^ 1074) × Found (ofBits binary64 (signed false a)) u
-sqrt-is-nearest a A h = elim (split a (2 ^ 52)) [
+pub sqrt-is-nearest : (a : ℕ) → 0 < a → a < 0x7ff0_0000_0000_0000 → (u : ℕ) × HasValue (ofBits binary64 (signed binary64 false a)) false u (2 ^ 1074) × Found (ofBits binary64 (signed binary64 false a)) u
+sqrt-is-nearest a A h = elim (lt-or-le a (2 ^ 52)) [
   | inl l ↦
       let t = leading-top 52 a A l in
       let j = t .0 in
@@ -167,8 +161,8 @@ sqrt-is-nearest a A h = elim (split a (2 ^ 52)) [
       let J : j < 52 = first j (lib.Count.leadingZeros 52 a) (t .1) in
       let sum : j + z ≡ 52 = back j J in (
         a * 2 ^ 0,
-        value-low false a l,
-        at-parts (ofBits binary64 (signed false a)) (a * 2 ^ 0) (a * 2 ^ z) (1022 - z) (value-low false a l) (mul-pos A (pow-pos 0))
+        value-low binary64 false a l,
+        at-parts (ofBits binary64 (signed binary64 false a)) (a * 2 ^ 0) (a * 2 ^ z) (1022 - z) (value-low binary64 false a l) (mul-pos A (pow-pos 0))
             (le-trans (le-of-eq (ap (λ (y : ℕ). 2 ^ y) (sym sum) ∙ pow-add 2 j z)) (mul-le-mul-right (2 ^ z) (t .2)))
             (lt-of-lt-of-le (shl-lt (suc j) z (t .3)) (pow-mono (le-of-eq (sum' j z sum))))
             (few z)
@@ -177,8 +171,8 @@ sqrt-is-nearest a A h = elim (split a (2 ^ 52)) [
   | inr g ↦
       let u = (2 ^ 52 + a % 2 ^ 52) * 2 ^ (a / 2 ^ 52 - 1) in (
         u,
-        value-normal false a g h,
-        at-parts (ofBits binary64 (signed false a)) u (2 ^ 52 + a % 2 ^ 52) (a / 2 ^ 52 + 1021) (value-normal false a g h) (mul-pos (lead-pos a) (pow-pos (a / 2 ^ 52 - 1))) (lead-lo a) (lead-hi a) (exp-lt a h)
+        value-normal binary64 false a g h,
+        at-parts (ofBits binary64 (signed binary64 false a)) u (2 ^ 52 + a % 2 ^ 52) (a / 2 ^ 52 + 1021) (value-normal binary64 false a g h) (mul-pos (lead-pos a) (pow-pos (a / 2 ^ 52 - 1))) (lead-lo a) (lead-hi a) (exp-lt a h)
             (mul-assoc (2 ^ 52 + a % 2 ^ 52) (2 ^ (a / 2 ^ 52 - 1)) (2 ^ 1074) ∙ ap (λ (z : ℕ). (2 ^ 52 + a % 2 ^ 52) * z) (sym (pow-add 2 (a / 2 ^ 52 - 1) 1074) ∙ ap (λ (z : ℕ). 2 ^ z) (same a g))),
       )
 ]

@@ -15,6 +15,7 @@ use lib.Ieee.Bits.{ofBits-toBits, toBits-lt}
 use lib.Ieee.Exact.{HasValue}
 use lib.Ieee.Scale.{overflow}
 use lib.Ieee.Compare.{differs-from-itself}
+use Rattle.rounding.proofs.Comparison.{lt-or-le}
 use Rattle.ieee754.specs.SquareRoot.{NearestRoot, roundRoot, sqrt}
 use Rattle.ieee754.proofs.IntegerRoot.{root-at}
 use Rattle.ieee754.proofs.Patterns.{units-bits}
@@ -129,19 +130,12 @@ unfolding sqrt
 top-positive true = refl
 top-positive false = refl
 
-split : (a c : ℕ) → (a < c) ⊎ (c ≤ a)
-split a c = go (lib.Dec.ltb a c) (lib.Dec.ltb→lt a c) (lib.Dec.nltb→le a c)
-  where
-    go : (t : Bool) → (T t → a < c) → (T (not t) → c ≤ a) → (a < c) ⊎ (c ≤ a)
-    go true p q = inl (p tt)
-    go false p q = inr (q tt)
-
-pub negative : (a : ℕ) → 0 < a → a < 2 ^ 63 → sqrt binary64 (ofBits binary64 (signed true a)) ≡ nan
-negative a P h = elim (split a (2 ^ 52)) [
-  | inl l ↦ sqrt-negative binary64 (ofBits binary64 (signed true a)) (a * 2 ^ 0) (2 ^ 1074) (value-low true a l) (one a P)
-  | inr g ↦ elim (split a 0x7ff0_0000_0000_0000) [
-    | inl l ↦ sqrt-negative binary64 (ofBits binary64 (signed true a)) ((2 ^ 52 + a % 2 ^ 52) * 2 ^ (a / 2 ^ 52 - 1)) (2 ^ 1074) (value-normal true a g l) (mul-pos (lead a) (pow-pos (a / 2 ^ 52 - 1)))
-    | inr u ↦ ap (sqrt binary64) (value-top true a u h) ∙ top-negative (eqb (a % 2 ^ 52) 0)
+pub negative : (a : ℕ) → 0 < a → a < 2 ^ 63 → sqrt binary64 (ofBits binary64 (signed binary64 true a)) ≡ nan
+negative a P h = elim (lt-or-le a (2 ^ 52)) [
+  | inl l ↦ sqrt-negative binary64 (ofBits binary64 (signed binary64 true a)) (a * 2 ^ 0) (2 ^ 1074) (value-low binary64 true a l) (one a P)
+  | inr g ↦ elim (lt-or-le a 0x7ff0_0000_0000_0000) [
+    | inl l ↦ sqrt-negative binary64 (ofBits binary64 (signed binary64 true a)) ((2 ^ 52 + a % 2 ^ 52) * 2 ^ (a / 2 ^ 52 - 1)) (2 ^ 1074) (value-normal binary64 true a g l) (mul-pos (lead a) (pow-pos (a / 2 ^ 52 - 1)))
+    | inr u ↦ ap (sqrt binary64) (value-top binary64 true a u h) ∙ top-negative (eqb (a % 2 ^ 52) 0)
   ]
 ]
   where
@@ -183,15 +177,15 @@ module _ (x : Float) (F : T (fits binary64 x)) where
       few b h = omega arith
 
   pub when-top : 0x7ff0_0000_0000_0000 ≤ bits → bits < 2 ^ 63 → x ≡ sqrt binary64 x
-  when-top h k = subst (λ (z : Float). z ≡ sqrt binary64 z) (sym (value-top false bits h k) ∙ ap (ofBits binary64) (zero-add bits) ∙ back) (top-positive (eqb (bits % 2 ^ 52) 0))
+  when-top h k = subst (λ (z : Float). z ≡ sqrt binary64 z) (sym (value-top binary64 false bits h k) ∙ ap (ofBits binary64) (zero-add bits) ∙ back) (top-positive (eqb (bits % 2 ^ 52) 0))
 
-  read : ofBits binary64 (signed false bits) ≡ x
+  read : ofBits binary64 (signed binary64 false bits) ≡ x
   read = ap (ofBits binary64) (zero-add bits) ∙ back
 
   pub when-normal : 2 ^ 52 ≤ bits → bits < 0x7ff0_0000_0000_0000 → sqrt binary64 x ≡ roundRoot binary64 ((bits % 2 ^ 52 + 2 ^ 52) * 2 ^ (bits / 2 ^ 52 + 1021 + 52))
   when-normal h k =
       let n = (2 ^ 52 + bits % 2 ^ 52) * 2 ^ (bits / 2 ^ 52 - 1) in
-      sqrt-value binary64 x n (subst (λ (z : Float). HasValue z false n (2 ^ 1074)) read (value-normal false bits h k)) (mul-pos (lead bits) (pow-pos (bits / 2 ^ 52 - 1)))
+      sqrt-value binary64 x n (subst (λ (z : Float). HasValue z false n (2 ^ 1074)) read (value-normal binary64 false bits h k)) (mul-pos (lead bits) (pow-pos (bits / 2 ^ 52 - 1)))
       ∙ ap (roundRoot binary64) (mul-assoc (2 ^ 52 + bits % 2 ^ 52) (2 ^ (bits / 2 ^ 52 - 1)) (2 ^ 1074) ∙ ap (λ (z : ℕ). (2 ^ 52 + bits % 2 ^ 52) * z) (sym (pow-add 2 (bits / 2 ^ 52 - 1) 1074) ∙ ap (λ (z : ℕ). 2 ^ z) (same bits h)) ∙ ap (λ (z : ℕ). z * 2 ^ (bits / 2 ^ 52 + 1021 + 52)) (swap bits))
     where
       lead : (b : ℕ) → 0 < 2 ^ 52 + b % 2 ^ 52
@@ -237,7 +231,7 @@ module _ (x : Float) (F : T (fits binary64 x)) where
 
     pub when-subnormal : sqrt binary64 x ≡ roundRoot binary64 (bits * 2 ^ (lz - 11) % 2 ^ 64 * 2 ^ (1022 - (lz - 11) + 52))
     when-subnormal =
-        sqrt-value binary64 x (bits * 2 ^ 0) (subst (λ (z : Float). HasValue z false (bits * 2 ^ 0) (2 ^ 1074)) read (value-low false bits S)) (mul-pos P (pow-pos 0))
+        sqrt-value binary64 x (bits * 2 ^ 0) (subst (λ (z : Float). HasValue z false (bits * 2 ^ 0) (2 ^ 1074)) read (value-low binary64 false bits S)) (mul-pos P (pow-pos 0))
         ∙ ap (roundRoot binary64) (ap (λ (z : ℕ). z * 2 ^ 1074) (mul-one bits) ∙ ap (λ (z : ℕ). bits * 2 ^ z) (sym (sum lz (zeros .1))) ∙ ap (λ (z : ℕ). bits * z) (pow-add 2 (lz - 11) (1022 - (lz - 11) + 52)) ∙ sym (mul-assoc bits (2 ^ (lz - 11)) (2 ^ (1022 - (lz - 11) + 52))) ∙ ap (λ (z : ℕ). z * 2 ^ (1022 - (lz - 11) + 52)) (sym is))
       where
         sum : (l : ℕ) → l ≤ 63 → l - 11 + (1022 - (l - 11) + 52) ≡ 1074

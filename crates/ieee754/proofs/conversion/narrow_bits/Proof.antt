@@ -1,3 +1,4 @@
+-- `ieee754::conversion::narrow_bits` meets its contract. Assumes nothing.
 use mathlib.Core.Path.{_≡_, refl, sym, ap, _∙_, subst}
 use mathlib.Core.Bool.{cond}
 use Prim.Native.Nat.{ℕ, _+_, _-_, _*_, _/_, _%_, _^_, _≤_, _<_}
@@ -8,9 +9,6 @@ use borrow.Author.Needs.{needs}
 use Rattle.ieee754.proofs.ConversionCases.{narrow-large, narrow-tiny, narrow-normal, narrow-subnormal, small-pattern}
 use Rattle.ieee754.proofs.conversion.narrow_bits.Statement.{statement}
 use Rattle.ieee754.proofs.conversion.narrow_bits.Tie as tie
-use Rattle.ieee754.proofs.conversion.narrow_bits.Reads as reads
-use Rattle.ieee754.proofs.conversion.narrow_bits.Lts as lts
-use Rattle.ieee754.proofs.conversion.rounded_quotient.Reads as rounded-reads
 
 lead : (y : ℕ) → y % 2 ^ 52 + 2 ^ 52 < 2 ^ 53
 lead y = omega arith

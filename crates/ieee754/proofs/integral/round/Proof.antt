@@ -1,3 +1,4 @@
+-- `ieee754::integral::round` meets its contract. Assumes nothing.
 use borrow.Author.Needs.{needs}
 use mathlib.Core.Path.{_≡_, refl, sym, ap, _∙_, subst}
 use mathlib.Core.Bool.{Bool, true, false, cond, not}
@@ -7,13 +8,10 @@ use lib.Dec.{T}
 use lib.Ieee.{Float, nan, binary64, fits, isNan, lt, le, eq, ofBits, rem, add}
 use lib.Ieee.Compare.{differs-from-itself}
 use Rattle.ieee754.specs.Integral.{roundedAway}
-use Rattle.ieee754.proofs.Fields.{equals-itself}
-use Rattle.ieee754.proofs.Helping.{roundAway-nan, stays-whole, away-in, away-plus, away-minus, by-plus, by-minus}
+use Rattle.ieee754.proofs.Fields.{equals-itself, by-plus, by-minus}
+use Rattle.ieee754.proofs.RoundAwayCases.{roundAway-nan, stays-whole, away-in, away-plus, away-minus}
 use Rattle.ieee754.proofs.integral.round.Statement.{statement}
 use Rattle.ieee754.proofs.integral.round.Tie as tie
-use Rattle.ieee754.proofs.integral.round.Reads as reads
-use Rattle.ieee754.proofs.integral.round.Lts as lts
-use Rattle.ieee754.proofs.integral.whole_away.Reads as whole-away-reads
 
 held : (c : tie.Start) → T (fits binary64 (c .args .x))
 held c = subst T (sym (c .good .0 .1)) tt
@@ -37,7 +35,7 @@ returns-3 : tie.Need-returns-3
 returns-3 c =
     let w = c .before .before in
     let s = w .before .before .before in
-    away-plus _ (w .whole-away .result) (w .before .if2 .left) (w .whole-away .ensures .0 false) ∙ ap (roundedAway binary64) (by-plus (s .args .x) (held s) (c .before .if3 .taken))
+    away-plus _ (w .whole-away .result) (w .before .if2 .left) (w .whole-away .ensures .0 false) ∙ ap (roundedAway binary64) (by-plus binary64 (s .args .x) (held s) (c .before .if3 .taken))
 
 int-to-float-result-2 : tie.Need-int-to-float-result-2
 int-to-float-result-2 c = away-in (c .before .before .whole-away .result) (c .before .before .whole-away .ensures .1)
@@ -46,7 +44,7 @@ returns-4 : tie.Need-returns-4
 returns-4 c =
     let w = c .before .before in
     let s = w .before .before .before in
-    away-minus _ (w .whole-away .result) (w .before .if2 .left) (w .whole-away .ensures .0 true) ∙ ap (roundedAway binary64) (by-minus (s .args .x) (held s) (c .before .if3 .left))
+    away-minus _ (w .whole-away .result) (w .before .if2 .left) (w .whole-away .ensures .0 true) ∙ ap (roundedAway binary64) (by-minus binary64 (s .args .x) (held s) (c .before .if3 .left))
 
 pub round-spec : {M : Type 1} → statement M
 round-spec =

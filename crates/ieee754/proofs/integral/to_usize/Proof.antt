@@ -1,10 +1,8 @@
+-- `ieee754::integral::to_usize` meets its contract. Assumes nothing.
 use borrow.Author.Needs.{needs}
-use Rattle.ieee754.proofs.Helping.{big-is, one-is, at-big, asked, below-one}
+use Rattle.ieee754.proofs.TruncationCases.{big-is, one-is, at-big, asked, below-one}
 use Rattle.ieee754.proofs.integral.to_usize.Statement.{statement}
 use Rattle.ieee754.proofs.integral.to_usize.Tie as tie
-use Rattle.ieee754.proofs.integral.to_usize.Reads as reads
-use Rattle.ieee754.proofs.integral.to_usize.Lts as lts
-use Rattle.std.proofs.num.truncating_f64_to_u64.Reads as truncating-f64-to-u64-reads
 
 returns : tie.Need-returns
 returns c = at-big (c .before .args .x) (rw big-is at (c .if1 .taken))

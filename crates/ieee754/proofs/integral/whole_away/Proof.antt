@@ -1,3 +1,4 @@
+-- `ieee754::integral::whole_away` meets its contract. Assumes nothing.
 use borrow.Author.Needs.{needs}
 use mathlib.Core.Path.{_≡_, refl, sym, ap, _∙_, subst}
 use mathlib.Core.Bool.{Bool, true, false, cond, not}
@@ -5,11 +6,9 @@ use Prim.Native.Nat.{ℕ, _+_, _-_, _*_, _/_, _%_, _^_, _≤_, _<_}
 use native.Mathlib.Omega.{arith}
 use lib.Dec.{T}
 use lib.Ieee.{Float, nan, binary64, fits, isNan, lt, le, eq, ofBits, rem, add}
-use Rattle.ieee754.proofs.Helping.{away-small, half-small, away-normal, away-le}
+use Rattle.ieee754.proofs.RoundAwayCases.{away-small, half-small, away-normal, away-le}
 use Rattle.ieee754.proofs.integral.whole_away.Statement.{statement}
 use Rattle.ieee754.proofs.integral.whole_away.Tie as tie
-use Rattle.ieee754.proofs.integral.whole_away.Reads as reads
-use Rattle.ieee754.proofs.integral.whole_away.Lts as lts
 
 returns : tie.Need-returns
 returns c = (λ s. away-small s (c .before .args .a) (c .if1 .taken), omega arith)

@@ -1,7 +1,6 @@
+-- `ieee754::order::clamp` meets its contract. Assumes nothing.
 use Rattle.ieee754.proofs.order.clamp.Statement.{statement}
 use Rattle.ieee754.proofs.order.clamp.Tie as tie
-use Rattle.ieee754.proofs.order.clamp.Reads as reads
-use Rattle.ieee754.proofs.order.clamp.Lts as lts
 
 returns : tie.Need-returns
 returns c = simp (c .if1 .taken)

@@ -1,8 +1,7 @@
-use Rattle.ieee754.proofs.Helping.{nan-yes, nan-no}
+-- `ieee754::order::max` meets its contract. Assumes nothing.
+use Rattle.ieee754.proofs.Fields.{nan-yes, nan-no}
 use Rattle.ieee754.proofs.order.max.Statement.{statement}
 use Rattle.ieee754.proofs.order.max.Tie as tie
-use Rattle.ieee754.proofs.order.max.Reads as reads
-use Rattle.ieee754.proofs.order.max.Lts as lts
 
 returns : tie.Need-returns
 returns c = simp (nan-yes (c .before .args .x) (c .if1 .taken))

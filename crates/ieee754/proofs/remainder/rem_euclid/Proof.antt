@@ -1,3 +1,4 @@
+-- `ieee754::remainder::rem_euclid` meets its contract. Assumes nothing.
 use borrow.Author.Needs.{needs}
 use mathlib.Core.Path.{_≡_, refl, sym, ap, _∙_, subst}
 use mathlib.Core.Bool.{Bool, true, false, cond, not}
@@ -7,12 +8,9 @@ use lib.Dec.{T}
 use lib.Ieee.{Float, nan, binary64, fits, isNan, lt, le, eq, ofBits, rem, add}
 use Rattle.ieee754.specs.Sign.{absolute}
 use Rattle.ieee754.specs.Remainder.{remEuclid}
-use Rattle.ieee754.proofs.Helping.{zero-is}
+use Rattle.ieee754.proofs.SignCases.{zero-is}
 use Rattle.ieee754.proofs.remainder.rem_euclid.Statement.{statement}
 use Rattle.ieee754.proofs.remainder.rem_euclid.Tie as tie
-use Rattle.ieee754.proofs.remainder.rem_euclid.Reads as reads
-use Rattle.ieee754.proofs.remainder.rem_euclid.Lts as lts
-use Rattle.ieee754.proofs.sign.abs.Reads as abs-reads
 
 abs-requires : tie.Need-abs-requires
 abs-requires c κs = search needs

@@ -1,14 +1,13 @@
+-- `ieee754::sign::abs` meets its contract. Assumes nothing.
 use mathlib.Core.Path.{_≡_, refl, sym, ap, _∙_, subst}
 use mathlib.Core.Bool.{Bool, true, false, cond, not}
 use Prim.Native.Nat.{ℕ, _+_, _-_, _*_, _/_, _%_, _^_, _≤_, _<_}
 use native.Mathlib.Omega.{arith}
 use lib.Dec.{T}
 use lib.Ieee.{Float, nan, binary64, fits, isNan, lt, le, eq, ofBits, rem, add}
-use Rattle.ieee754.proofs.Helping.{zero-is, abs-negative, abs-zero, abs-positive}
+use Rattle.ieee754.proofs.SignCases.{zero-is, abs-negative, abs-zero, abs-positive}
 use Rattle.ieee754.proofs.sign.abs.Statement.{statement}
 use Rattle.ieee754.proofs.sign.abs.Tie as tie
-use Rattle.ieee754.proofs.sign.abs.Reads as reads
-use Rattle.ieee754.proofs.sign.abs.Lts as lts
 
 held : (c : tie.Start) → T (fits binary64 (c .args .x))
 held c = subst T (sym (c .good .0 .1)) tt

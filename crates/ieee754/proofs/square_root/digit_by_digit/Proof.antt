@@ -8,9 +8,6 @@ use borrow.Author.Needs.{needs}
 use Rattle.ieee754.proofs.RootDigits.{more-digits, digit-small, q-small, more-zeros, q-small-2, half-near}
 use Rattle.ieee754.proofs.square_root.digit_by_digit.Statement.{statement}
 use Rattle.ieee754.proofs.square_root.digit_by_digit.Tie as tie
-use Rattle.ieee754.proofs.square_root.digit_by_digit.Reads as reads
-use Rattle.ieee754.proofs.square_root.digit_by_digit.Lts as lts
-use Rattle.ieee754.proofs.square_root.digit.Reads as digit-reads
 
 abbrev Inv-loop : tie.InvT-loop
 Inv-loop m p₀ s₀ p s = (p .q * p .q + p .rest ≡ m / 2 ^ s) × (p .rest ≤ 2 * p .q) × (s ≤ 54) × (s % 2 ≡ 0)

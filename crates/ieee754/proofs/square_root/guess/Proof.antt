@@ -1,12 +1,12 @@
+-- `ieee754::square_root::guess` meets its contract. Assumes nothing.
 use Prim.Native.Nat.{ℕ, _+_, _-_, _/_, _≤_}
 use native.Mathlib.Omega.{arith}
 use mathlib.Core.Logic.{⊎-elim}
+use lib.Ieee.{binary64}
 use borrow.Author.Needs.{needs}
-use Rattle.ieee754.proofs.Fields.{no-nan, le-no-nan}
+use Rattle.ieee754.proofs.Fields.{no-nan-plain, le-no-nan}
 use Rattle.ieee754.proofs.square_root.guess.Statement.{statement}
 use Rattle.ieee754.proofs.square_root.guess.Tie as tie
-use Rattle.ieee754.proofs.square_root.guess.Reads as reads
-use Rattle.ieee754.proofs.square_root.guess.Lts as lts
 
 small : (c : tie.Joined1) → c .if1 .bits ≤ 0x7ff0_0000_0000_0000
 small c = ⊎-elim (λ w. omega arith) (λ w. omega arith) (c .if1 .came)
@@ -18,7 +18,7 @@ add-bits-2 : tie.Need-add-bits-2
 add-bits-2 c = search needs
 
 float-from-bits-x : tie.Need-float-from-bits-x
-float-from-bits-x c = no-nan (c .if1 .bits) (small c)
+float-from-bits-x c = no-nan-plain binary64 (c .if1 .bits) (small c)
 
 start-requires : tie.Need-start-requires
 start-requires c κs = small (c)

@@ -1,11 +1,7 @@
+-- `ieee754::square_root::nearest_root` meets its contract. Assumes nothing.
 use borrow.Author.Needs.{needs}
 use Rattle.ieee754.proofs.square_root.nearest_root.Statement.{statement}
 use Rattle.ieee754.proofs.square_root.nearest_root.Tie as tie
-use Rattle.ieee754.proofs.square_root.nearest_root.Reads as reads
-use Rattle.ieee754.proofs.square_root.nearest_root.Lts as lts
-use Rattle.ieee754.proofs.square_root.guess.Reads as guess-reads
-use Rattle.ieee754.proofs.square_root.is_nearest.Reads as is-nearest-reads
-use Rattle.ieee754.proofs.square_root.digit_by_digit.Reads as digit-by-digit-reads
 
 guess-requires : tie.Need-guess-requires
 guess-requires c κs = search needs

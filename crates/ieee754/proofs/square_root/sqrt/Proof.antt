@@ -9,13 +9,10 @@ use lib.Ieee.Compare.{differs-from-itself}
 use lib.Arith.{lt-of-le-ne}
 use borrow.Author.Needs.{needs}
 use Rattle.ieee754.specs.SquareRoot.{sqrt, roundRoot}
-use Rattle.ieee754.proofs.Fields.{no-nan, equals-itself}
+use Rattle.ieee754.proofs.Fields.{no-nan-plain, equals-itself}
 use Rattle.ieee754.proofs.SquareRootCases.{sqrt-nan, when-plus-zero, when-minus-zero, when-negative, when-top, when-normal, zeros, shifted, when-subnormal}
 use Rattle.ieee754.proofs.square_root.sqrt.Statement.{statement}
 use Rattle.ieee754.proofs.square_root.sqrt.Tie as tie
-use Rattle.ieee754.proofs.square_root.sqrt.Reads as reads
-use Rattle.ieee754.proofs.square_root.sqrt.Lts as lts
-use Rattle.ieee754.proofs.square_root.root_bits.Reads as root-bits-reads
 
 held : (c : tie.Start) → T (fits binary64 (c .args .x))
 held c = subst T (sym (c .good .0 .1)) tt
@@ -79,7 +76,7 @@ root-bits-requires c κs =
     (g .0, g .1, omega arith)
 
 float-from-bits-result : tie.Need-float-from-bits-result
-float-from-bits-result c = no-nan (c .root-bits .result) (le-of-lt (c .root-bits .ensures .1))
+float-from-bits-result c = no-nan-plain binary64 (c .root-bits .result) (le-of-lt (c .root-bits .ensures .1))
 
 returns-6 : tie.Need-returns-6
 returns-6 c =
@@ -96,7 +93,7 @@ root-bits-requires-2 : tie.Need-root-bits-requires-2
 root-bits-requires-2 c κs = search needs
 
 float-from-bits-result-2 : tie.Need-float-from-bits-result-2
-float-from-bits-result-2 c = no-nan (c .root-bits2 .result) (le-of-lt (c .root-bits2 .ensures .1))
+float-from-bits-result-2 c = no-nan-plain binary64 (c .root-bits2 .result) (le-of-lt (c .root-bits2 .ensures .1))
 
 returns-7 : tie.Need-returns-7
 returns-7 c =

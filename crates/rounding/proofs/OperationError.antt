@@ -15,7 +15,7 @@ use lib.Ieee.Fits.{down-pos, round-is}
 use lib.Ieee.Exact.{HasValue, units-val}
 use lib.Ieee.Order.{drop, kept}
 use lib.Ieee.Scale.{grid, overflow, round-same}
-use Rattle.ieee754.proofs.RoundingError.{Within, absolute}
+use Rattle.rounding.proofs.RoundingError.{Within, absolute}
 
 -- ---- x is finite, and is p - q units
 abbrev pub Val : Format → Float → ℕ → ℕ → Type 0
@@ -382,6 +382,7 @@ prod-bound p q p' q' B C a b c d = go (ltb p q) (ltb p' q') (ltb→lt p q) (nltb
   where
     up : (q q' u u' : ℕ) → (q + u) * (q' + u') + q * q' ≡ (q + u) * q' + q * (q' + u') + u * u'
     up q q' u u' = omega arith
+
     same : (p q p' q' : ℕ) → p ≤ q + B → p' ≤ q' + C → q ≤ p → q' ≤ p' → p * p' + q * q' ≤ p * q' + q * p' + B * C
     same p q p' q' a c h k =
         let u = p - q in
@@ -393,10 +394,13 @@ prod-bound p q p' q' B C a b c d = go (ltb p q) (ltb p' q') (ltb→lt p q) (nltb
       where
         back : (a b : ℕ) → a ≤ b → b ≡ a + (b - a)
         back a b h = omega arith
+
         off : (a b d : ℕ) → a ≤ b + d → a - b ≤ d
         off a b d h = omega arith
+
         more : (a b d : ℕ) → b ≤ d → a + b ≤ a + d
         more a b d h = omega arith
+
     flip : (p q p' q' : ℕ) → q ≤ p → p' ≤ q' → p * p' + q * q' ≤ p * q' + q * p' + B * C
     flip p q p' q' h k =
         let u = p - q in
@@ -408,14 +412,19 @@ prod-bound p q p' q' B C a b c d = go (ltb p q) (ltb p' q') (ltb→lt p q) (nltb
       where
         back : (a b : ℕ) → a ≤ b → b ≡ a + (b - a)
         back a b h = omega arith
+
         least : (q u p' u' : ℕ) → (q + u) * p' + q * (p' + u') ≤ (q + u) * (p' + u') + q * p'
         least q u p' u' = omega arith
+
         less : (a b : ℕ) → a ≤ a + b
         less a b = omega arith
+
     swap : (a b c d : ℕ) → a + b ≤ c + d → b + a ≤ d + c
     swap a b c d h = omega arith
+
     turn : (x y : ℕ) → x + y ≡ y + x
     turn x y = omega arith
+
     go : (r s : Bool) → (T r → p < q) → (T (not r) → q ≤ p) → (T s → p' < q') → (T (not s) → q' ≤ p') → p * p' + q * q' ≤ p * q' + q * p' + B * C
     go false false e f g h = same p q p' q' a c (f tt) (h tt)
     go true true e f g h = le-trans (le-of-eq (turn (p * p') (q * q'))) (le-trans (same q p q' p' b d (le-of-lt (e tt)) (le-of-lt (g tt))) (le-of-eq (ap (λ (z : ℕ). z + B * C) (turn (q * p') (p * q')))))
