@@ -3,7 +3,7 @@ use mathlib.Core.Path.{_≡_, refl, sym, ap, _∙_, subst}
 use mathlib.Core.Logic.{_⊎_, inl, inr}
 use mathlib.Core.Bool.{Bool, true, false, not, cond}
 use Prim.Native.Nat.{ℕ, zero, suc, _+_, _-_, _*_, _/_, _%_, _^_, _≤_, _<_, zero-le, compare, Ordering, Ordering·lt, Ordering·eq, Ordering·gt}
-use native.Mathlib.Nat.{le-trans, le-of-eq, le-of-lt, le-antisymm, lt-of-lt-of-le, lt-of-le-of-lt, lt-of-not-le, not-le-of-lt, le-refl, mul-one, mul-comm, mul-assoc, mul-left-comm, mul-right-comm, add-mul, mul-add, mul-le-mul, mul-le-mul-left, mul-le-mul-right, mul-lt-mul-of-pos-right, le-of-mul-le-mul-right, lt-of-mul-lt-mul-right, mul-pos, mul-mul-mul-comm, div-mul-le-self, div-lt-iff-lt-mul, le-div-iff-mul-le, pow-suc, pow-succ', lt-irrefl, zero-lt-suc, suc-mul, mul-suc}
+use native.Mathlib.Nat.{le-of-suc-le-suc, le-trans, le-of-eq, le-of-lt, le-antisymm, lt-of-lt-of-le, lt-of-le-of-lt, lt-of-not-le, not-le-of-lt, le-refl, mul-one, mul-comm, mul-assoc, mul-left-comm, mul-right-comm, add-mul, mul-add, mul-le-mul, mul-le-mul-left, mul-le-mul-right, mul-lt-mul-of-pos-right, le-of-mul-le-mul-right, lt-of-mul-lt-mul-right, mul-pos, mul-mul-mul-comm, div-mul-le-self, div-lt-iff-lt-mul, le-div-iff-mul-le, pow-suc, pow-succ', lt-irrefl, zero-lt-suc, suc-mul, mul-suc}
 use native.Mathlib.Omega.{arith}
 use lib.Dec.{T, leb, leb→le, nleb→lt}
 use lib.Pow.{pow-add, pow-pos, pow-mono, pow-lt, shl-lt}
@@ -95,6 +95,19 @@ near-unique M r t x y = le-antisymm (le-of-not t r (less-no M t r y x)) (le-of-n
             go : (b : Bool) → (T b → x ≤ y) → (T (not b) → y < x) → (x ≤ y) ⊎ (y < x)
             go true p q = inl (p tt)
             go false p q = inr (q tt)
+
+-- ---- the size of a nearest root
+pub near-lo : (H M r : ℕ) → H * H ≤ M → NearestRoot M r → H ≤ r
+near-lo H M r h w = le-of-suc-le-suc (lt-of-not-le (λ (g : suc r ≤ H). no (mul-le-mul g g)))
+  where
+    no : suc r * suc r ≤ H * H → ⊥
+    no a = let b = w .above in omega arith
+
+pub near-hi : (H M r : ℕ) → M < H * H → NearestRoot M r → r ≤ H
+near-hi H M r h w = le-of-suc-le-suc (lt-of-not-le (λ (g : suc H ≤ r). no (mul-le-mul-right r g) (mul-le-mul-left H g)))
+  where
+    no : suc H * r ≤ r * r → H * suc H ≤ H * r → ⊥
+    no a c = let b = w .below in omega arith
 
 -- from the whole part, and how √M compares with what lies halfway
 sq-odd : (q : ℕ) → (2 * q + 1) * (2 * q + 1) ≡ 4 * (q * q) + 4 * q + 1

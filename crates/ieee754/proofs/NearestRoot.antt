@@ -1,20 +1,20 @@
--- No value of the format is nearer to the root of an `f64` than its `sqrt`, nor as near. Assumes nothing.
+-- The theorem of the square root, for any format: no other value of the format is as near to the root as `sqrt` is. It is the last
+-- declaration of this file, `sqrt-is-nearest`. Assumes nothing.
 use mathlib.Core.Path.{_≡_, refl, sym, ap, _∙_, subst}
-use mathlib.Core.Logic.{_⊎_, inl, inr}
-use mathlib.Core.Bool.{Bool, true, false, not, cond}
+use mathlib.Core.Logic.{inl, inr}
+use mathlib.Core.Bool.{false}
 use Prim.Native.Nat.{ℕ, zero, suc, _+_, _-_, _*_, _/_, _%_, _^_, _≤_, _<_}
-use native.Mathlib.Nat.{le-trans, le-of-eq, le-of-lt, lt-of-le-of-lt, lt-of-lt-of-le, lt-irrefl, eq-or-lt-of-le, mul-le-mul, mul-le-mul-right, mul-le-mul-left, mul-lt-mul-of-pos-right, mul-lt-mul-of-pos-left, lt-of-mul-lt-mul-right, mul-pos, mul-one, mul-assoc, mul-mul-mul-comm, add-mul, zero-add, pow-succ'}
+use native.Mathlib.Nat.{le-trans, le-of-eq, le-of-lt, lt-of-le-of-lt, lt-of-lt-of-le, lt-irrefl, eq-or-lt-of-le, mul-le-mul, mul-le-mul-right, mul-le-mul-left, mul-lt-mul-of-pos-right, lt-of-mul-lt-mul-right, mul-pos, mul-one, mul-assoc, mul-mul-mul-comm, add-mul, le-add-right, mod-lt, div-lt-iff-lt-mul}
 use native.Mathlib.Omega.{arith}
-use lib.Dec.{T, ltb, ltb→lt, nltb→le, lit≤}
 use lib.Pow.{pow-add, pow-pos, pow-mono, shl-lt}
-use lib.Ieee.{Float, Format, binary32, binary64, prec, low, units, ofBits}
+use lib.Ieee.{Float, Format, binary32, binary64, prec, emax, low, hid, ones, size, ofBits}
+use lib.Ieee.Digits.{size-lt, size-le, size-reaches}
 use lib.Ieee.Exact.{HasValue, units-val}
 use Rattle.rounding.proofs.Comparison.{lt-or-le}
-use Rattle.ieee754.specs.SquareRoot.{NearestRoot, NearestValue, roundRoot, sqrt}
-use Rattle.ieee754.proofs.IntegerRoot.{root-at, some-root}
-use Rattle.ieee754.proofs.Fields.{signed, value-low, value-normal}
-use lib.Count.{leading-top}
-use Rattle.ieee754.proofs.SquareRootCases.{near-lo, near-hi, sqrt-value, M, scaled, M-lo, M-hi}
+use Rattle.ieee754.specs.SquareRoot.{NearestRoot, NearestValue, sqrt}
+use Rattle.ieee754.proofs.IntegerRoot.{root-at, some-root, near-lo, near-hi}
+use Rattle.ieee754.proofs.Fields.{signed, infinity, hid-pos, value-low, value-normal}
+use Rattle.ieee754.proofs.SquareRootCases.{sqrt-value}
 
 sq-mul : (a b : ℕ) → a * b * (a * b) ≡ a * a * (b * b)
 sq-mul a b = mul-mul-mul-comm a b a b
@@ -128,81 +128,152 @@ module _ (f : Format) (M k n r : ℕ) (is : n ≡ M * (2 ^ k * 2 ^ k)) (lo : 2 ^
     ];
   }
 
--- ---- every positive finite `f64`
-abbrev Found : Float → ℕ → Type 0
-Found x u = (g : ℕ) × HasValue (sqrt binary64 x) false g (2 ^ 1074) × NearestValue binary64 (u * 2 ^ 1074) g
+-- ---- n = m * 2 ^ E, with a full significand m: n is M * 4 ^ k, with M of 2 * prec - 1 or 2 * prec digits
+module _ (f : Format) (m E : ℕ) (lo : hid f ≤ m) (hi : m < 2 ^ prec f) (E-lo : prec f - 1 ≤ E) where
+  abbrev e : ℕ
+  e = E - (prec f - 1)
 
-at-parts : (x : Float) (u m p : ℕ) → HasValue x false u (2 ^ 1074) → 0 < u → 2 ^ 52 ≤ m → m < 2 ^ 53 → p < 3072 → u * 2 ^ 1074 ≡ m * 2 ^ (p + 52) → Found x u
-at-parts x u m p v U lo hi P e =
-    let n = u * 2 ^ 1074 in
-    let N = M m p lo hi P in
-    let k = p / 2 in
-    let is : n ≡ N * (2 ^ k * 2 ^ k) = e ∙ scaled m p lo hi P in
-    let s = some-root binary64 N k n is (M-lo m p lo hi P) (M-hi m p lo hi P) in
-    let r = s .0 in (
-      r * 2 ^ k,
-      subst (λ (z : Float). HasValue z false (r * 2 ^ k) (2 ^ 1074)) (sym (sqrt-value binary64 x u v U ∙ root-at binary64 N k n is (M-lo m p lo hi P) (M-hi m p lo hi P) r (s .1)))
-          (units-val binary64 false r k (lt-of-lt-of-le (shl-lt 54 k (more r (near-hi (2 ^ 53) N r (M-hi m p lo hi P) (s .1)))) (pow-mono (room p P)))),
-      nearest-root binary64 N k n r is (M-lo m p lo hi P) (s .1),
-    )
+  abbrev pub k-of : ℕ
+  k-of = e / 2
+
+  abbrev pub M-of : ℕ
+  M-of = m * 2 ^ (prec f - 1 + e % 2)
+
+  pub split-of : m * 2 ^ E ≡ M-of * (2 ^ k-of * 2 ^ k-of)
+  split-of =
+      ap (λ (z : ℕ). m * 2 ^ z) (parts E (prec f - 1) E-lo)
+      ∙ ap (λ (z : ℕ). m * z) (pow-add 2 (prec f - 1 + e % 2) (e / 2 + e / 2) ∙ ap (λ (z : ℕ). 2 ^ (prec f - 1 + e % 2) * z) (pow-add 2 (e / 2) (e / 2)))
+      ∙ sym (mul-assoc m (2 ^ (prec f - 1 + e % 2)) (2 ^ (e / 2) * 2 ^ (e / 2)))
+    where
+      parts : (x y : ℕ) → y ≤ x → x ≡ y + (x - y) % 2 + ((x - y) / 2 + (x - y) / 2)
+      parts x y h = omega arith
+
+  pub M-of-lo : 2 ^ (prec f - 1) * 2 ^ (prec f - 1) ≤ M-of
+  M-of-lo = mul-le-mul lo (pow-mono (le-add-right (prec f - 1) (e % 2)))
+
+  pub M-of-hi : M-of < 2 ^ prec f * 2 ^ prec f
+  M-of-hi = lt-of-lt-of-le (mul-lt-mul-of-pos-right hi (pow-pos (prec f - 1 + e % 2))) (mul-le-mul-left (2 ^ prec f) (pow-mono (digit f e)))
+    where
+      digit : (g : Format) (y : ℕ) → prec g - 1 + y % 2 ≤ prec g
+      digit binary32 y = omega arith
+      digit binary64 y = omega arith
+
+-- ---- every positive finite value of a format
+
+-- the square root of x, which is u units, is nearer to the root than any other value of the format
+pub record Found (f : Format) (x : Float) (u : ℕ) : Type 0 where
+  pub g : ℕ
+  pub value : HasValue (sqrt f x) false g (2 ^ low f)
+  pub nearest : NearestValue f (u * 2 ^ low f) g
+
+found : (f : Format) (x : Float) (u m E : ℕ) → HasValue x false u (2 ^ low f) → 0 < u → hid f ≤ m → m < 2 ^ prec f → prec f - 1 ≤ E → E < ones f + low f → u * 2 ^ low f ≡ m * 2 ^ E → Found f x u
+found f x u m E v U lo hi E-lo E-hi e =
+    let n = u * 2 ^ low f in
+    let M = M-of f m E lo hi E-lo in
+    let k = k-of f m E lo hi E-lo in
+    let is : n ≡ M * (2 ^ k * 2 ^ k) = e ∙ split-of f m E lo hi E-lo in
+    let s = some-root f M k n is (M-of-lo f m E lo hi E-lo) (M-of-hi f m E lo hi E-lo) in
+    let r = s .0 in
+    record {
+      g = r * 2 ^ k;
+      value =
+          subst (λ (z : Float). HasValue z false (r * 2 ^ k) (2 ^ low f)) (sym (sqrt-value f x u v U ∙ root-at f M k n is (M-of-lo f m E lo hi E-lo) (M-of-hi f m E lo hi E-lo) r (s .1)))
+          (units-val f false r k (lt-of-lt-of-le (shl-lt (suc (prec f)) k (more f r (near-hi (2 ^ prec f) M r (M-of-hi f m E lo hi E-lo) (s .1)))) (pow-mono (room f E E-hi))));
+      nearest = nearest-root f M k n r is (M-of-lo f m E lo hi E-lo) (s .1);
+    }
   where
-    more : (x : ℕ) → x ≤ 2 ^ 53 → x < 2 ^ 54
-    more x h = omega arith
+    more : (g : Format) (y : ℕ) → y ≤ 2 ^ prec g → y < 2 ^ suc (prec g)
+    more binary32 y h = omega arith
+    more binary64 y h = omega arith
 
-    room : (x : ℕ) → x < 3072 → 54 + x / 2 ≤ 2098
-    room x h = omega arith
+    room : (g : Format) (y : ℕ) → y < ones g + low g → suc (prec g) + (y - (prec g - 1)) / 2 ≤ low g + suc (emax g)
+    room binary32 y h = omega arith
+    room binary64 y h = omega arith
 
-pub sqrt-is-nearest : (a : ℕ) → 0 < a → a < 0x7ff0_0000_0000_0000 → (u : ℕ) × HasValue (ofBits binary64 (signed binary64 false a)) false u (2 ^ 1074) × Found (ofBits binary64 (signed binary64 false a)) u
-sqrt-is-nearest a A h = elim (lt-or-le a (2 ^ 52)) [
-  | inl l ↦
-      let t = leading-top 52 a A l in
-      let j = t .0 in
-      let z = 52 - j in
-      let J : j < 52 = first j (lib.Count.leadingZeros 52 a) (t .1) in
-      let sum : j + z ≡ 52 = back j J in (
-        a * 2 ^ 0,
-        value-low binary64 false a l,
-        at-parts (ofBits binary64 (signed binary64 false a)) (a * 2 ^ 0) (a * 2 ^ z) (1022 - z) (value-low binary64 false a l) (mul-pos A (pow-pos 0))
-            (le-trans (le-of-eq (ap (λ (y : ℕ). 2 ^ y) (sym sum) ∙ pow-add 2 j z)) (mul-le-mul-right (2 ^ z) (t .2)))
-            (lt-of-lt-of-le (shl-lt (suc j) z (t .3)) (pow-mono (le-of-eq (sum' j z sum))))
-            (few z)
-            (ap (λ (y : ℕ). y * 2 ^ 1074) (mul-one a) ∙ ap (λ (y : ℕ). a * 2 ^ y) (whole j J) ∙ ap (λ (y : ℕ). a * y) (pow-add 2 z (1022 - z + 52)) ∙ sym (mul-assoc a (2 ^ z) (2 ^ (1022 - z + 52)))),
-      )
-  | inr g ↦
-      let u = (2 ^ 52 + a % 2 ^ 52) * 2 ^ (a / 2 ^ 52 - 1) in (
-        u,
-        value-normal binary64 false a g h,
-        at-parts (ofBits binary64 (signed binary64 false a)) u (2 ^ 52 + a % 2 ^ 52) (a / 2 ^ 52 + 1021) (value-normal binary64 false a g h) (mul-pos (lead-pos a) (pow-pos (a / 2 ^ 52 - 1))) (lead-lo a) (lead-hi a) (exp-lt a h)
-            (mul-assoc (2 ^ 52 + a % 2 ^ 52) (2 ^ (a / 2 ^ 52 - 1)) (2 ^ 1074) ∙ ap (λ (z : ℕ). (2 ^ 52 + a % 2 ^ 52) * z) (sym (pow-add 2 (a / 2 ^ 52 - 1) 1074) ∙ ap (λ (z : ℕ). 2 ^ z) (same a g))),
-      )
+module _ (f : Format) (a : ℕ) (A : 0 < a) where
+  x : Float
+  x = ofBits f (signed f false a)
+
+  -- a subnormal: its significand is shifted up past its leading zeros
+  low-found : a < hid f → Found f x (a * 2 ^ 0)
+  unfolding x
+  low-found l =
+      let j = size a - 1 in
+      let z = prec f - 1 - j in
+      let full : 2 ^ j ≤ a = size-reaches a j (below (size a) some) in
+      found f (ofBits f (signed f false a)) (a * 2 ^ 0) (a * 2 ^ z) (low f - z) (value-low f false a l) (mul-pos A (pow-pos 0))
+      (le-trans (le-of-eq (ap (λ (y : ℕ). 2 ^ y) (sym join) ∙ pow-add 2 j z)) (mul-le-mul-right (2 ^ z) full))
+      (lt-of-lt-of-le (shl-lt (size a) z (size-lt a)) (pow-mono (le-of-eq join')))
+      (e-lo f j) (e-hi f z)
+      (ap (λ (y : ℕ). y * 2 ^ low f) (mul-one a) ∙ ap (λ (y : ℕ). a * 2 ^ y) (sym (whole f j)) ∙ ap (λ (y : ℕ). a * y) (pow-add 2 z (low f - z)) ∙ sym (mul-assoc a (2 ^ z) (2 ^ (low f - z))))
+    where
+      some : 0 < size a
+      some = positive (size a) (λ (h : size a ≡ 0). no a A (lt-of-lt-of-le (size-lt a) (le-of-eq (ap (λ (y : ℕ). 2 ^ y) h))))
+        where
+          no : (y : ℕ) → 0 < y → y < 2 ^ 0 → ⊥
+          no y h k = omega arith
+
+          positive : (y : ℕ) → (y ≡ 0 → ⊥) → 0 < y
+          positive zero h = absurd (h refl)
+          positive (suc y) h = native.Mathlib.Nat.zero-lt-suc y
+
+      below : (y : ℕ) → 0 < y → y - 1 < y
+      below y h = omega arith
+
+      few : size a ≤ prec f - 1
+      few = size-le a (prec f - 1) l
+
+      join : size a - 1 + (prec f - 1 - (size a - 1)) ≡ prec f - 1
+      join = sum (size a) (prec f - 1) some few
+        where
+          sum : (s p : ℕ) → 0 < s → s ≤ p → s - 1 + (p - (s - 1)) ≡ p
+          sum s p h k = omega arith
+
+      join' : size a + (prec f - 1 - (size a - 1)) ≡ prec f
+      join' = sum f (size a) some few
+        where
+          sum : (g : Format) (s : ℕ) → 0 < s → s ≤ prec g - 1 → s + (prec g - 1 - (s - 1)) ≡ prec g
+          sum binary32 s h k = omega arith
+          sum binary64 s h k = omega arith
+
+      e-lo : (g : Format) (j : ℕ) → prec g - 1 ≤ low g - (prec g - 1 - j)
+      e-lo binary32 j = omega arith
+      e-lo binary64 j = omega arith
+
+      e-hi : (g : Format) (z : ℕ) → low g - z < ones g + low g
+      e-hi binary32 z = omega arith
+      e-hi binary64 z = omega arith
+
+      whole : (g : Format) (j : ℕ) → prec g - 1 - j + (low g - (prec g - 1 - j)) ≡ low g
+      whole binary32 j = omega arith
+      whole binary64 j = omega arith
+
+  normal-found : hid f ≤ a → a < infinity f → Found f x ((hid f + a % hid f) * 2 ^ (a / hid f - 1))
+  unfolding x
+  normal-found g h =
+      let d = hid f + a % hid f in
+      let q = a / hid f - 1 in
+      found f (ofBits f (signed f false a)) (d * 2 ^ q) d (q + low f) (value-normal f false a g h) (mul-pos (lt-of-lt-of-le (hid-pos f) (le-add-right (hid f) (a % hid f))) (pow-pos q))
+      (le-add-right (hid f) (a % hid f)) (lead f (a % hid f) (mod-lt a (hid-pos f))) (e-lo f q) (e-hi f (a / hid f) (div-lt-iff-lt-mul (hid-pos f) .1 h))
+      (mul-assoc d (2 ^ q) (2 ^ low f) ∙ ap (λ (z : ℕ). d * z) (sym (pow-add 2 q (low f))))
+    where
+      lead : (g : Format) (y : ℕ) → y < hid g → hid g + y < 2 ^ prec g
+      lead binary32 y h = omega arith
+      lead binary64 y h = omega arith
+
+      e-lo : (g : Format) (y : ℕ) → prec g - 1 ≤ y + low g
+      e-lo binary32 y = omega arith
+      e-lo binary64 y = omega arith
+
+      e-hi : (g : Format) (y : ℕ) → y < ones g → y - 1 + low g < ones g + low g
+      e-hi binary32 y h = omega arith
+      e-hi binary64 y h = omega arith
+
+-- THE THEOREM. Of every positive finite value of a format, given by its pattern a, the square root is nearer to the exact root than any
+-- other value of the format.
+pub sqrt-is-nearest : (f : Format) (a : ℕ) → 0 < a → a < infinity f → (u : ℕ) × HasValue (ofBits f (signed f false a)) false u (2 ^ low f) × Found f (ofBits f (signed f false a)) u
+unfolding x
+sqrt-is-nearest f a A h = elim (lt-or-le a (hid f)) [
+  | inl l ↦ (a * 2 ^ 0, value-low f false a l, low-found f a A l)
+  | inr g ↦ ((hid f + a % hid f) * 2 ^ (a / hid f - 1), value-normal f false a g h, normal-found f a A g h)
 ]
-  where
-    first : (j l : ℕ) → l + suc j ≡ 52 → j < 52
-    first j l e = omega arith
-
-    back : (j : ℕ) → j < 52 → j + (52 - j) ≡ 52
-    back j h = omega arith
-
-    sum' : (j z : ℕ) → j + z ≡ 52 → suc j + z ≡ 53
-    sum' j z e = omega arith
-
-    few : (z : ℕ) → 1022 - z < 3072
-    few z = omega arith
-
-    whole : (j : ℕ) → j < 52 → 1074 ≡ 52 - j + (1022 - (52 - j) + 52)
-    whole j h = omega arith
-
-    lead-pos : (y : ℕ) → 0 < 2 ^ 52 + y % 2 ^ 52
-    lead-pos y = omega arith
-
-    lead-lo : (y : ℕ) → 2 ^ 52 ≤ 2 ^ 52 + y % 2 ^ 52
-    lead-lo y = omega arith
-
-    lead-hi : (y : ℕ) → 2 ^ 52 + y % 2 ^ 52 < 2 ^ 53
-    lead-hi y = omega arith
-
-    exp-lt : (y : ℕ) → y < 0x7ff0_0000_0000_0000 → y / 2 ^ 52 + 1021 < 3072
-    exp-lt y h = omega arith
-
-    same : (b : ℕ) → 2 ^ 52 ≤ b → b / 2 ^ 52 - 1 + 1074 ≡ b / 2 ^ 52 + 1021 + 52
-    same b h = omega arith

@@ -17,22 +17,9 @@ use lib.Ieee.Scale.{overflow}
 use lib.Ieee.Compare.{differs-from-itself}
 use Rattle.rounding.proofs.Comparison.{lt-or-le}
 use Rattle.ieee754.specs.SquareRoot.{NearestRoot, roundRoot, sqrt}
-use Rattle.ieee754.proofs.IntegerRoot.{root-at}
+use Rattle.ieee754.proofs.IntegerRoot.{root-at, near-lo, near-hi}
 use Rattle.ieee754.proofs.Patterns.{units-bits}
 use Rattle.ieee754.proofs.Fields.{signed, value-low, value-normal, value-top}
-
--- ---- the size of a nearest root
-pub near-lo : (H M r : ℕ) → H * H ≤ M → NearestRoot M r → H ≤ r
-near-lo H M r h w = le-of-suc-le-suc (lt-of-not-le (λ (g : suc r ≤ H). no (mul-le-mul g g)))
-  where
-    no : suc r * suc r ≤ H * H → ⊥
-    no a = let b = w .above in omega arith
-
-pub near-hi : (H M r : ℕ) → M < H * H → NearestRoot M r → r ≤ H
-near-hi H M r h w = le-of-suc-le-suc (lt-of-not-le (λ (g : suc H ≤ r). no (mul-le-mul-right r g) (mul-le-mul-left H g)))
-  where
-    no : suc H * r ≤ r * r → H * suc H ≤ H * r → ⊥
-    no a c = let b = w .below in omega arith
 
 -- ---- the pattern of the root of m * 2 ^ (p + 52)
 module _ (m p : ℕ) (lo : 2 ^ 52 ≤ m) (hi : m < 2 ^ 53) (P : p < 3072) where
