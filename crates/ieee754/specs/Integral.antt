@@ -1,6 +1,6 @@
 -- Module 1: Rust's `round`, halves away from zero. At any format. (Truncation, `as usize`, is the logic's own `toUnsigned 64`.)
 -- Definitions only.
-use Prim.Native.Nat.{ℕ, _+_, _*_, _/_}
+use Prim.Native.Nat.{ℕ, _+_, _-_, _*_, _/_}
 use lib.Ieee.{Float, nan, inf, fin, Format, up, down, round}
 
 -- the whole number nearest to |x|, a half up: the whole part of |x| + 1 / 2
