@@ -3,6 +3,7 @@ pub mod conversion;
 pub mod hypotenuse;
 pub mod integral;
 pub mod order;
+pub mod pattern;
 pub mod remainder;
 pub mod sign;
 pub mod square_root;

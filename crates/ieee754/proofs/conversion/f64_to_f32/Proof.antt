@@ -9,7 +9,7 @@ use lib.Ieee.{nan, binary32, binary64, fits, ofBits, div, nanBits}
 use lib.Ieee.Compare.{differs-from-itself}
 use borrow.Author.Needs.{needs}
 use Rattle.ieee754.specs.Conversion.{convert}
-use Rattle.ieee754.proofs.Fields.{no-nan, no-nan-plain, equals-itself, by-plus, by-minus, at-most-infinity}
+use Rattle.ieee754.proofs.Fields.{zero-by-zero, no-nan, no-nan-plain, equals-itself, by-plus, by-minus, at-most-infinity}
 use Rattle.ieee754.proofs.ConversionCases.{convert-nan}
 use Rattle.ieee754.proofs.conversion.f64_to_f32.Statement.{statement}
 use Rattle.ieee754.proofs.conversion.f64_to_f32.Tie as tie
@@ -17,12 +17,8 @@ use Rattle.ieee754.proofs.conversion.f64_to_f32.Tie as tie
 held : (c : tie.Start) → T (fits binary64 (c .args .x))
 held c = subst T (sym (c .good .0 .1)) tt
 
-zero-by-zero : div binary32 (ofBits binary32 0) (ofBits binary32 0) ≡ nan
-unfolding div ofBits
-zero-by-zero = refl
-
 returns : tie.Need-returns
-returns c = zero-by-zero ∙ convert-nan ∙ ap (convert binary32) (sym (differs-from-itself (c .before .args .x) (subst T (sym (c .if1 .taken)) tt)))
+returns c = zero-by-zero binary32 ∙ convert-nan ∙ ap (convert binary32) (sym (differs-from-itself (c .before .args .x) (subst T (sym (c .if1 .taken)) tt)))
 
 float-to-bits-b : tie.Need-float-to-bits-b
 float-to-bits-b c = equals-itself (c .before .args .x) (c .if1 .left)

@@ -9,18 +9,13 @@ use lib.Ieee.Compare.{differs-from-itself}
 use lib.Arith.{lt-of-le-ne}
 use borrow.Author.Needs.{needs}
 use Rattle.ieee754.specs.SquareRoot.{sqrt, roundRoot}
-use Rattle.ieee754.proofs.Fields.{no-nan-plain, equals-itself}
+use Rattle.ieee754.proofs.Fields.{zero-by-zero, no-nan-plain, equals-itself}
 use Rattle.ieee754.proofs.SquareRootCases.{sqrt-nan, when-plus-zero, when-minus-zero, when-negative, when-top, when-normal, zeros, shifted, when-subnormal}
 use Rattle.ieee754.proofs.square_root.sqrt.Statement.{statement}
 use Rattle.ieee754.proofs.square_root.sqrt.Tie as tie
 
 held : (c : tie.Start) → T (fits binary64 (c .args .x))
 held c = subst T (sym (c .good .0 .1)) tt
-
--- 0.0 / 0.0 as MIR has it
-zero-by-zero : div binary64 (ofBits binary64 0) (ofBits binary64 0) ≡ nan
-unfolding div ofBits
-zero-by-zero = refl
 
 -- past all tests but the last
 abbrev b : tie.Start → ℕ
@@ -52,7 +47,7 @@ returns-3 : tie.Need-returns-3
 returns-3 c = let s = c .before .before .before in when-minus-zero (s .args .x) (held s) (c .if3 .taken)
 
 returns-4 : tie.Need-returns-4
-returns-4 c = let s = c .before .before .before .before in zero-by-zero ∙ sym (when-negative (s .args .x) (held s) (c .if4 .taken))
+returns-4 c = let s = c .before .before .before .before in zero-by-zero binary64 ∙ sym (when-negative (s .args .x) (held s) (c .if4 .taken))
 
 returns-5 : tie.Need-returns-5
 returns-5 c = let s = c .before .before .before .before .before in when-top (s .args .x) (held s) (c .if5 .taken) (lt-of-le-ne (c .before .if4 .left) (c .before .before .if3 .left))
