@@ -1,11 +1,15 @@
 //! Single functions of the source on seeded built values: one vector a line on standard output.
 //!
-//!     single [--build exported|platform|counted] [--seed N] [--count N] [--kind NAME]
+//!     single [--build exported|platform|counted] [--seed N] [--count N] [--kind NAME] [--words 1]
 //!
 //! A line is the kind, its inputs and its outputs, parted by single spaces: f64 as 16 hexadecimal
 //! digits, f32 as 8, whole numbers decimal, lists of f32 run on (`-` if empty). Any NaN is written
 //! 7ff8000000000000 or 7fc00000. README.md has the fields of each kind. The counted build prints
 //! its branch counts on standard error at the end.
+//!
+//! With --words a line is a run of words of 16 hexadecimal digits, which the programs in
+//! crates/*_vectors read: the kind by its place in KINDS, whole numbers, f32 in the lower half, a
+//! list as its count and then its numbers.
 
 mod api;
 mod values;
@@ -13,13 +17,25 @@ mod values;
 use api::Reference;
 use api::shapes::{Built, NONE, PAIRS, STRETCH, Tracker};
 use std::io::Write;
+use std::sync::atomic::{AtomicBool, Ordering};
 use values::{ODD, Random, Signal, Words, built, built_f32, hex, hex32, stop};
+
+/// Whether lines are written as words.
+static WORDS: AtomicBool = AtomicBool::new(false);
+
+fn as_words() -> bool {
+    WORDS.load(Ordering::Relaxed)
+}
 
 /// One line, field by field.
 struct Line(String);
 
 impl Line {
     fn new(kind: &str) -> Self {
+        if as_words() {
+            let place = KINDS.iter().position(|(name, _)| *name == kind).expect("a kind of the table");
+            return Line(format!("{place:016x}"));
+        }
         Line(kind.to_string())
     }
     fn word(&mut self, word: &str) {
@@ -27,7 +43,7 @@ impl Line {
         self.0.push_str(word);
     }
     fn whole(&mut self, n: u64) {
-        self.word(&n.to_string());
+        self.word(&if as_words() { format!("{n:016x}") } else { n.to_string() });
     }
     fn float(&mut self, v: f64) {
         self.word(&hex(v));
@@ -38,9 +54,14 @@ impl Line {
         }
     }
     fn float32(&mut self, v: f32) {
-        self.word(&hex32(v));
+        self.word(&if as_words() { format!("{:0>16}", hex32(v)) } else { hex32(v) });
     }
     fn list(&mut self, values: &[f32]) {
+        if as_words() {
+            self.whole(values.len() as u64);
+            values.iter().for_each(|v| self.float32(*v));
+            return;
+        }
         let run: String = values.iter().map(|v| hex32(*v)).collect();
         self.word(if run.is_empty() { "-" } else { &run });
     }
@@ -522,6 +543,7 @@ fn main() {
     let reference = Reference::named(name).unwrap_or_else(|| stop("--build exported, platform or counted"));
     let (seed, count) = (words.number("--seed", 1), words.number("--count", 100));
     let only = words.get("--kind");
+    WORDS.store(words.number("--words", 0) == 1, Ordering::Relaxed);
     if only.is_some_and(|k| KINDS.iter().all(|(name, _)| *name != k)) {
         stop("no such kind");
     }

@@ -1,11 +1,12 @@
-// Replays answers of the Rust's raw scan: each vector is a count, so many f32, and the flag. reference/vectors makes them. The number of each
-// vector that differs is printed.
+// Replays answers of the Rust's raw scan: each vector is its kind, a count, so many f32, and the flag. reference/vectors makes them. The number
+// of each vector that differs is printed.
 use libc::STDOUT_FILENO;
 
-// Whether the next vector, of n numbers, holds.
-fn holds(n: u64) -> bool {
+// Whether the next vector holds.
+fn holds() -> bool {
     let mut list = [0.0f32; 4096];
-    let k = vectors::next_samples(n, &mut list);
+    let n = vectors::next_word();
+    let k = vectors::next_samples(n.value, &mut list);
     let want = vectors::next_word();
     survey::survey(&list[..k]) == want.value
 }
@@ -26,12 +27,12 @@ fn main() {
     let mut differ: u64 = 0;
     let mut n: u64 = 0;
     while n < 1000000 {
-        let count = vectors::next_word();
-        if !count.there {
+        let kind = vectors::next_word();
+        if !kind.there {
             break;
         }
         n += 1;
-        if !holds(count.value) {
+        if !holds() {
             say_differs(n);
             differ += 1;
         }

@@ -6,14 +6,17 @@ use borrow.Author.Needs.{needs}
 use Rattle.survey_vectors.proofs.holds.Statement.{statement}
 use Rattle.survey_vectors.proofs.holds.Tie as tie
 
+next-word-requires : tie.Need-next-word-requires
+next-word-requires c κs = search needs
+
 slice-aggregate-next-samples : tie.Need-slice-aggregate-next-samples
 slice-aggregate-next-samples c = search needs
 
 next-samples-requires : tie.Need-next-samples-requires
 next-samples-requires c κs = search needs
 
-next-word-requires : tie.Need-next-word-requires
-next-word-requires c κs = search needs
+next-word-requires-2 : tie.Need-next-word-requires-2
+next-word-requires-2 c κs = search needs
 
 array-share-prefix-list : tie.Need-array-share-prefix-list
 array-share-prefix-list c = search needs
@@ -33,9 +36,10 @@ pub holds-spec : {M : Type 1} → statement M
 holds-spec =
     tie.close
     (tie.spec
+    next-word-requires
     slice-aggregate-next-samples
     next-samples-requires
-    next-word-requires
+    next-word-requires-2
     array-share-prefix-list
     slice-aggregate-survey
     survey-requires
