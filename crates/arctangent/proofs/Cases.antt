@@ -11,13 +11,13 @@ use lib.Ieee.Bits.{is-true, is-false, cond-no}
 use lib.Ieee.Fits.{up-pos, down-pos, and-i, and-l, eq→eqb}
 use lib.Ieee.Positive.{num, den, positive}
 use lib.Ieee.Scale.{finite, grid}
-use Rattle.ieee754.specs.Sign.{absolute, plusZero}
+use Rattle.ieee754.specs.Sign.{absolute, plusZero, signBit, signed}
 use Rattle.fixed_point.specs.Fraction.{Fraction, negated, Near, Approximates}
 use Rattle.fixed_point.specs.Conversion.{scaled}
 use Rattle.fixed_point.proofs.Approximations.{approximates-more}
 use Rattle.fixed_point.proofs.ToFloat.{Scaled, scaled-near, near-neg, near-scaled}
 use Rattle.arctangent.specs.Angle.{A, upperHalf, quadrant}
-use Rattle.arctangent.specs.Directions.{pi, halfPi, quarterPi, threeQuartersPi, signBit, signed}
+use Rattle.arctangent.specs.Directions.{pi, halfPi, quarterPi, threeQuartersPi}
 use Rattle.arctangent.specs.Promise.{special, Arctangent}
 use Rattle.arctangent.specs.Steps.{straightAngle, firstQuadrant, isSmall, regularAngle, infinity, upperAngle, atan2Of}
 use Rattle.arctangent.proofs.Tables.{straight-angle-is}

@@ -6,9 +6,8 @@ use lib.IntN.{ℤ, pos, negsuc}
 use lib.Dec.{T, ltb, eqb}
 use lib.Ieee.{Float, nan, inf, fin, Format, binary64, prec, emax, low, up, down, odd, units, round, neg, mul, div, lt, ofInt, ofBits}
 use lib.Ieee.Positive.{positive}
-use Rattle.ieee754.specs.Sign.{absolute}
+use Rattle.ieee754.specs.Sign.{absolute, signBit, signed}
 use Rattle.fixed_point.specs.Conversion.{scaled}
-use Rattle.arctangent.specs.Directions.{signBit, signed}
 use Rattle.arctangent.specs.Steps.{isSmall}
 
 neg-odd : (d : ℕ) (s : Bool) (q k l : ℕ) → odd d (not s) q k l ≡ neg (odd d s q k l)

@@ -9,10 +9,10 @@ use lib.Count.{trailingZeros}
 use lib.Ieee.{Float, nan, inf, fin, binary64, up, down, span, climb, size, odd, units, round, mul, neg, lt, le, eq, ofInt, ofBits}
 use lib.Ieee.Fits.{down-pos, and-i, eq→eqb}
 use lib.Ieee.Exact.{HasValue}
-use Rattle.ieee754.specs.Sign.{plusZero}
+use Rattle.ieee754.specs.Sign.{plusZero, signBit, signed}
 use Rattle.fixed_point.specs.Conversion.{nonnegative, scaled}
 use Rattle.fixed_point.proofs.ToFloat.{scaled-mono}
-use Rattle.arctangent.specs.Directions.{pi, halfPi, quarterPi, threeQuartersPi, signBit, signed}
+use Rattle.arctangent.specs.Directions.{pi, halfPi, quarterPi, threeQuartersPi}
 use Rattle.arctangent.specs.Steps.{straightAngle}
 use Rattle.arctangent.proofs.Tables.{straight-angle-is}
 use Rattle.arctangent.proofs.Doubling.{either}

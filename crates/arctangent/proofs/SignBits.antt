@@ -8,8 +8,7 @@ use borrow.Author.Tests.{lt-leb}
 use lib.Ieee.{Float, nan, inf, fin, binary64, odd, ofFields, ofBits, toBits, nanBits, isNan, fits}
 use lib.Ieee.Bits.{ofBits-toBits, toBits-lt, nanBits-is}
 use lib.Ieee.Positive.{positive}
-use Rattle.ieee754.specs.Sign.{absolute}
-use Rattle.arctangent.specs.Directions.{signBit}
+use Rattle.ieee754.specs.Sign.{absolute, signBit}
 
 -- ---- the sign
 

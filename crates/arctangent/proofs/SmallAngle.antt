@@ -1,14 +1,13 @@
 -- Small angles keep their accuracy in proportion: where |y| is below 2 ^ -16 of x, atan2(y, x) is y / x, rounded once.
-use mathlib.Core.Path.{_≡_, sym, ap, _∙_}
+use mathlib.Core.Path.{_≡_, refl, sym, ap, _∙_}
 use mathlib.Core.Bool.{Bool, true, false, not, cond, _&&_}
 use Prim.Native.Nat.{zero, suc, _-_}
 use lib.Dec.{T}
 use lib.Ieee.{Float, nan, inf, fin, binary64, div, isNan}
 use lib.Ieee.Bits.{is-true}
 use lib.Ieee.Positive.{positive}
-use Rattle.ieee754.specs.Sign.{absolute}
+use Rattle.ieee754.specs.Sign.{absolute, signed}
 use Rattle.fixed_point.specs.Conversion.{scaled}
-use Rattle.arctangent.specs.Directions.{signed}
 use Rattle.arctangent.specs.Steps.{straightAngle, angleUnit, firstQuadrant, isSmall, regularAngle, atan2Of}
 use Rattle.arctangent.proofs.OppositeSign.{signed-div}
 use Rattle.arctangent.proofs.Cases.{upper-regular}
@@ -27,4 +26,4 @@ small-quotient (fin s (suc m) e) (inf u) py px t = absurd px
 small-quotient (fin s (suc m) e) (fin true n d) py px t = absurd px
 small-quotient (fin s (suc m) e) (fin false zero d) py px t = absurd px
 small-quotient (fin s (suc m) e) (fin false (suc n) d) py px t =
-    ap (signed s) (upper-regular false m e n d ∙ regular-small (fin false (suc m) e) (fin false (suc n) d) t) ∙ sym (signed-div (fin s (suc m) e) (fin false (suc n) d) py px (λ i. false))
+    ap (signed s) (upper-regular false m e n d ∙ regular-small (fin false (suc m) e) (fin false (suc n) d) t) ∙ sym (signed-div (fin s (suc m) e) (fin false (suc n) d) py px refl)

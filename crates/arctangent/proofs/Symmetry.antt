@@ -2,8 +2,7 @@
 use mathlib.Core.Path.{_≡_, refl, sym}
 use mathlib.Core.Bool.{Bool, true, false, not, cond}
 use lib.Ieee.{Float, nan, inf, fin, neg, isNan}
-use Rattle.ieee754.specs.Sign.{absolute}
-use Rattle.arctangent.specs.Directions.{signBit, signed}
+use Rattle.ieee754.specs.Sign.{absolute, signBit, signed}
 use Rattle.arctangent.specs.Steps.{upperAngle, atan2Of}
 
 twice : (w : Float) → neg (neg w) ≡ w

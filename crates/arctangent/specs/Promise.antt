@@ -6,10 +6,10 @@ use lib.Dec.{T}
 use lib.Ieee.{Float, nan, inf, fin, neg, le, isNan}
 use lib.Ieee.Positive.{num, den}
 use lib.Ieee.Scale.{finite}
-use Rattle.ieee754.specs.Sign.{plusZero}
+use Rattle.ieee754.specs.Sign.{plusZero, signBit, signed}
 use Rattle.fixed_point.specs.Fraction.{Near}
 use Rattle.arctangent.specs.Angle.{quadrant}
-use Rattle.arctangent.specs.Directions.{pi, halfPi, quarterPi, threeQuartersPi, signBit, signed}
+use Rattle.arctangent.specs.Directions.{pi, halfPi, quarterPi, threeQuartersPi}
 
 -- IEEE 754-2019, 9.2.1: the value of atan2(y, x) in each special case, and v itself at any other y and x. s is y's sign; `inf false` is +∞ and
 -- `inf true` -∞, `fin s zero e` a zero, `fin s (suc m) e` another finite number.

@@ -4,14 +4,14 @@ use Prim.Native.Nat.{ℕ, _+_, _-_, _*_, _/_, _^_}
 use mathlib.Core.Bool.{Bool, false, not, cond, _&&_, _||_}
 use mathlib.Core.List.{List}
 use lib.Ieee.{Float, nan, inf, binary64, mul, div, lt, le, eq, isNan, ofBits}
-use Rattle.ieee754.specs.Sign.{absolute, plusZero}
+use Rattle.ieee754.specs.Sign.{absolute, plusZero, signBit, signed}
 use Rattle.fixed_point.specs.Series.{factorial, term, terms, reciprocal}
 use Rattle.fixed_point.specs.Fraction.{Fraction}
 use Rattle.fixed_point.specs.Product.{hi, horner, tabulate}
 use Rattle.fixed_point.specs.Conversion.{scaled}
 use Rattle.fixed_point.specs.Ratio.{ratio}
 use Rattle.arctangent.specs.Angle.{taylor, quarterTurn, halfTurn}
-use Rattle.arctangent.specs.Directions.{pi, halfPi, quarterPi, threeQuartersPi, signBit, signed}
+use Rattle.arctangent.specs.Directions.{pi, halfPi, quarterPi, threeQuartersPi}
 
 -- ---- the series at an x up to 1/2, as two polynomials in x^4 of nine terms each. What is left out, from degree 37 on, is below 2 ^ -42.
 

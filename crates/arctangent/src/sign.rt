@@ -4,8 +4,7 @@ ghost use mathlib.Core.Bool.{not, cond};
 ghost use Prim.Native.Nat.{_^_};
 ghost use lib.Dec.{T};
 ghost use lib.Ieee.{isNan};
-ghost use Rattle.ieee754.specs.Sign.{absolute};
-ghost use Rattle.arctangent.specs.Directions.{signBit, signed};
+ghost use Rattle.ieee754.specs.Sign.{absolute, signBit, signed};
 
 // Whether the sign is set, also that of a zero.
 pub fn negative(x: f64) -> bool

@@ -12,7 +12,7 @@ use lib.Ieee.{Float, nan, inf, fin, binary64, up, down, rem, neg, lt, le, eq, fi
 use lib.Ieee.Fits.{down-pos, rem-fits}
 use lib.Ieee.Exact.{HasValue}
 use lib.Ieee.Scale.{finite}
-use Rattle.ieee754.specs.Sign.{absolute}
+use Rattle.ieee754.specs.Sign.{absolute, signed}
 use Rattle.fixed_point.specs.Series.{factorial, term, terms, inverseFactorial}
 use Rattle.fixed_point.specs.Fraction.{negated, distance, Near, Enclosure}
 use Rattle.fixed_point.specs.Conversion.{Fixable, fixed}
@@ -24,7 +24,7 @@ use Rattle.fixed_point.proofs.ToFloat.{near-neg}
 use Rattle.fixed_point.proofs.SameValue.{fits-unsigned}
 use Rattle.sincos.specs.Taylor.{fourthTerms, sineSum, cosineSum}
 use Rattle.sincos.specs.Reduction.{turn, remainder}
-use Rattle.sincos.specs.Steps.{signed, sineSeries, sineOf, cosineOf, sine, cosine}
+use Rattle.sincos.specs.Steps.{sineSeries, sineOf, cosineOf, sine, cosine}
 use Rattle.sincos.specs.Promise.{limit, taylorSine, taylorCosine, SinePromise, CosinePromise}
 use Rattle.sincos.proofs.SeriesBound.{units-upto, sine-series-near, cosine-series-near}
 use Rattle.sincos.proofs.ExactRemainder.{turns, remainder-exact, rest-upto}

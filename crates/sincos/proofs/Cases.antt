@@ -7,12 +7,12 @@ use lib.IntN.{ℤ}
 use lib.Dec.{T, ltb, ltb→lt, nltb→le, lt→ltb}
 use lib.Ieee.{Float, nan, inf, fin, binary64, up, down, rem, lt, ne, fits, isNan, ofBits}
 use lib.Ieee.Fits.{down-pos}
-use Rattle.ieee754.specs.Sign.{absolute}
+use Rattle.ieee754.specs.Sign.{absolute, signed}
 use Rattle.ieee754.proofs.Fields.{nan-yes, nan-no}
 use Rattle.fixed_point.specs.Product.{hi}
 use Rattle.fixed_point.specs.Conversion.{Fixable, fixed}
 use Rattle.sincos.specs.Reduction.{remainder}
-use Rattle.sincos.specs.Steps.{signed, small, sineFrom, cosineFrom, sineSeries, cosineSeries, sineOf, cosineOf, sine, cosine}
+use Rattle.sincos.specs.Steps.{small, sineFrom, cosineFrom, sineSeries, cosineSeries, sineOf, cosineOf, sine, cosine}
 use Rattle.sincos.proofs.SeriesBound.{fourth-lt}
 use Rattle.sincos.proofs.Bounds.{rest, rest-in-range, rest-units, sine-promise, cosine-promise}
 use Rattle.sincos.specs.Promise.{SinePromise, CosinePromise}

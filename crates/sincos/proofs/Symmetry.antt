@@ -7,12 +7,12 @@ use native.Mathlib.Omega.{arith}
 use lib.Count.{trailingZeros}
 use lib.Dec.{T, ltb→lt}
 use lib.Ieee.{Float, nan, inf, fin, binary64, up, down, span, climb, size, odd, units, round, neg, mul, rem, lt, fits, ofInt, ofBits, toUnsigned}
-use Rattle.ieee754.specs.Sign.{absolute}
+use Rattle.ieee754.specs.Sign.{absolute, signed}
 use Rattle.fixed_point.specs.Series.{factorial}
 use Rattle.fixed_point.specs.Product.{horner, tabulate}
 use Rattle.fixed_point.specs.Conversion.{fixed, scaled}
 use Rattle.sincos.specs.Reduction.{remainder}
-use Rattle.sincos.specs.Steps.{cosinePlus, cosineMinus, difference, cosineFrom, sineSeries, cosineSeries, signed, small, sineOf, cosineOf, sine, cosine}
+use Rattle.sincos.specs.Steps.{cosinePlus, cosineMinus, difference, cosineFrom, sineSeries, cosineSeries, small, sineOf, cosineOf, sine, cosine}
 use Rattle.sincos.proofs.SignedUnit.{neg-neg}
 use Rattle.sincos.proofs.ExactRemainder.{turns, within, remainder-neg}
 use Rattle.sincos.proofs.Cases.{of-small}

@@ -4,10 +4,10 @@ use mathlib.Core.Bool.{not, cond}
 use lib.Dec.{T}
 use lib.Ieee.{Float, nan, binary64, le, ofBits}
 use lib.Ieee.Scale.{finite}
-use Rattle.ieee754.specs.Sign.{absolute}
+use Rattle.ieee754.specs.Sign.{absolute, signBit}
 use Rattle.fixed_point.specs.Fraction.{Fraction, negated, Near}
 use Rattle.sincos.specs.Taylor.{sineSum, cosineSum}
-use Rattle.sincos.specs.Reduction.{restNum, restDen, signBit}
+use Rattle.sincos.specs.Reduction.{restNum, restDen}
 
 -- 1,024
 abbrev pub limit : Float

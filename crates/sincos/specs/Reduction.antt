@@ -1,7 +1,6 @@
 -- Module 2: the angle whose sine and cosine are taken is the exact truncated remainder of θ by the f64 nearest 2π. Definitions only.
 use Prim.Native.Nat.{ℕ, _*_, _%_}
-use mathlib.Core.Bool.{Bool, false}
-use lib.Ieee.{Float, nan, inf, fin, binary64, rem, ofBits}
+use lib.Ieee.{Float, binary64, rem, ofBits}
 use lib.Ieee.Positive.{num, den}
 
 -- 6.283185307179586, the f64 nearest 2π
@@ -18,8 +17,3 @@ restNum θ = num θ * den turn % (num turn * den θ)
 
 abbrev pub restDen : Float → ℕ
 restDen θ = den θ * den turn
-
-abbrev pub signBit : Float → Bool
-signBit nan = false
-signBit (inf s) = s
-signBit (fin s m e) = s

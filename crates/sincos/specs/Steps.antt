@@ -2,10 +2,11 @@
 -- x^2, x^3 and x^4 in units of 2 ^ -58, 2 ^ -55 and 2 ^ -52, a result in units of 2 ^ -53. The added and the subtracted terms of a Taylor sum
 -- are two polynomials in x^4, of nine terms each: what is left out is below 2 ^ -42. Definitions only.
 use Prim.Native.Nat.{ℕ, _+_, _-_, _*_, _/_, _^_}
-use mathlib.Core.Bool.{Bool, false, cond}
+use mathlib.Core.Bool.{false, cond}
 use mathlib.Core.List.{List}
 use lib.Dec.{leb}
 use lib.Ieee.{Float, nan, inf, fin, binary64, neg, lt, ofBits}
+use Rattle.ieee754.specs.Sign.{signed}
 use Rattle.fixed_point.specs.Series.{factorial}
 use Rattle.fixed_point.specs.Product.{hi, horner, tabulate}
 use Rattle.fixed_point.specs.Conversion.{fixed, scaled}
@@ -48,10 +49,6 @@ sineSeries x = sineFrom x (hi x x) (hi (hi x x) (hi x x))
 
 unfoldable pub cosineSeries : ℕ → Float
 cosineSeries x = cosineFrom (hi x x) (hi (hi x x) (hi x x))
-
--- v, with its sign changed where s says so
-abbrev pub signed : Bool → Float → Float
-signed s v = cond s (neg v) v
 
 -- 2 ^ -16: below it the sine is the angle itself, which is nearer in proportion
 abbrev pub small : Float

@@ -4,9 +4,8 @@ use mathlib.Core.Bool.{Bool, false, cond, _||_}
 use lib.Dec.{T}
 use lib.Ieee.{Float, nan, binary64, fits, isNan}
 use lib.Ieee.Compare.{differs-from-itself}
-use Rattle.ieee754.specs.Sign.{absolute}
+use Rattle.ieee754.specs.Sign.{absolute, signBit, signed}
 use Rattle.ieee754.proofs.Fields.{yes, equals-itself, nan-no}
-use Rattle.arctangent.specs.Directions.{signBit, signed}
 use Rattle.arctangent.specs.Promise.{Arctangent}
 use Rattle.arctangent.specs.Steps.{upperAngle, atan2Of}
 use Rattle.arctangent.proofs.Cases.{promise-holds}

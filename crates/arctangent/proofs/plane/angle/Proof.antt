@@ -5,8 +5,8 @@ use lib.Dec.{T}
 use lib.Ieee.{Float, binary64, eq, div, isNan, ofBits}
 use lib.Ieee.Positive.{positive}
 use borrow.Author.Needs.{needs}
-use Rattle.ieee754.specs.Sign.{absolute, plusZero}
-use Rattle.arctangent.specs.Directions.{pi, halfPi, quarterPi, threeQuartersPi, signBit, signed}
+use Rattle.ieee754.specs.Sign.{absolute, plusZero, signBit, signed}
+use Rattle.arctangent.specs.Directions.{pi, halfPi, quarterPi, threeQuartersPi}
 use Rattle.arctangent.specs.Steps.{regularAngle, infinity, upperAngle}
 use Rattle.arctangent.proofs.SignBits.{absolute-no-nan, absolute-sign}
 use Rattle.arctangent.proofs.Cases.{positive-of}

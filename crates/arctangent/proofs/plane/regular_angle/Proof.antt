@@ -7,9 +7,8 @@ use lib.Dec.{T}
 use lib.Ieee.{Float, binary64, div, neg, ofBits}
 use lib.Ieee.Positive.{positive}
 use borrow.Author.Needs.{needs}
-use Rattle.ieee754.specs.Sign.{absolute}
+use Rattle.ieee754.specs.Sign.{absolute, signBit, signed}
 use Rattle.fixed_point.specs.Conversion.{scaled}
-use Rattle.arctangent.specs.Directions.{signBit, signed}
 use Rattle.arctangent.specs.Steps.{straightAngle, angleUnit, firstQuadrant, isSmall, regularAngle}
 use Rattle.arctangent.proofs.SignBits.{positive-no-nan}
 use Rattle.arctangent.proofs.OppositeSign.{scaled-signed, signed-div}

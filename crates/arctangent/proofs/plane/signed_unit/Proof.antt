@@ -5,7 +5,7 @@ use Prim.Native.Nat.{ℕ, _+_, _^_, _<_}
 use lib.Dec.{T, lit<}
 use lib.Ieee.{binary64, neg, nanBits, ofBits}
 use borrow.Author.Needs.{needs}
-use Rattle.arctangent.specs.Directions.{signBit, signed}
+use Rattle.ieee754.specs.Sign.{signBit, signed}
 use Rattle.arctangent.specs.Steps.{angleUnit}
 use Rattle.arctangent.proofs.plane.signed_unit.Statement.{statement}
 use Rattle.arctangent.proofs.plane.signed_unit.Tie as tie

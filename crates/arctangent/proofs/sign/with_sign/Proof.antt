@@ -2,7 +2,7 @@
 use mathlib.Core.Path.{sym, ap}
 use mathlib.Core.Bool.{Bool}
 use borrow.Author.Needs.{needs}
-use Rattle.arctangent.specs.Directions.{signed}
+use Rattle.ieee754.specs.Sign.{signed}
 use Rattle.arctangent.proofs.sign.with_sign.Statement.{statement}
 use Rattle.arctangent.proofs.sign.with_sign.Tie as tie
 
