@@ -1,0 +1,2 @@
+-- Module 8 of the scope: two frequencies.
+pub mod Dispersion

@@ -1,0 +1,2 @@
+-- Module 4 of the scope: the frequency estimate.
+pub mod Esprit

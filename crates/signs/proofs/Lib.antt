@@ -1,0 +1,4 @@
+-- Signs and exchange, for any format.
+pub mod Commutation
+pub mod Opposites
+pub mod MinusZero

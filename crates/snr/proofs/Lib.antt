@@ -1,0 +1,2 @@
+pub mod EstimateCases
+pub mod WorkedValues
