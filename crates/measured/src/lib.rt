@@ -1,5 +1,6 @@
 // Functions that bench/ measures and that the C interface does not export, under C names. Nothing else uses this crate.
 ghost use mathlib.Core.Path.{_≡_};
+ghost use mathlib.Core.Bool.{false};
 ghost use lib.Ieee.{binary32, binary64, toUnsigned};
 ghost use Rattle.sequences.specs.Pairs.{pairs};
 ghost use Rattle.ieee754.specs.SquareRoot.{sqrt};
@@ -10,6 +11,9 @@ ghost use Rattle.ieee754.specs.Order.{maximum, clamped};
 ghost use Rattle.ieee754.specs.Sign.{absolute};
 ghost use Rattle.ieee754.specs.Hypotenuse.{hypotenuse, hypotenuseAt};
 ghost use Rattle.survey.specs.Survey.{surveyOf};
+ghost use Rattle.correlation.specs.Correlation.{prepared};
+ghost use Rattle.esprit.specs.Esprit.{estimate};
+ghost use Rattle.snr.specs.MomentEstimate.{snrOf};
 
 #[no_mangle]
 pub extern "C" fn measured_sqrt(x: f64) -> f64
@@ -86,4 +90,18 @@ pub extern "C" fn measured_survey(samples: &[f32]) -> u64
     ensures { λ r. ⌜ r ≡ surveyOf (pairs (now (samples .entry))) ⌝ }
 {
     survey::survey(samples)
+}
+
+#[no_mangle]
+pub extern "C" fn measured_estimate(samples: &[f32], rate: f64) -> f64
+    ensures { λ r. ⌜ r ≡ estimate (prepared false (now (samples .entry))) rate ⌝ }
+{
+    esprit::estimate_frequency_esprit(samples, false, rate)
+}
+
+#[no_mangle]
+pub extern "C" fn measured_snr(samples: &[f32]) -> f64
+    ensures { λ r. ⌜ r ≡ snrOf (now (samples .entry)) ⌝ }
+{
+    snr::estimate_snr(samples)
 }
