@@ -1,11 +1,17 @@
 -- "Values on both sides", those marked P: one table, which proofs/Proved.antt proves of the definitions. Definitions only.
 use mathlib.Core.Path.{_≡_}
+use mathlib.Core.Bool.{Bool}
 use mathlib.Core.List.{List, [], _∷_}
-use Prim.Native.Nat.{ℕ}
+use lib.ListN.{length}
 use lib.Ieee.{Float, nan, binary32, binary64, ofBits}
 use Rattle.sequences.specs.Pairs.{pairs}
 use Rattle.ieee754.specs.SquareRoot.{sqrt}
+use Rattle.arctangent.specs.Steps.{atan2Of}
 use Rattle.survey.specs.Survey.{surveyOf}
+use Rattle.snr.specs.MomentEstimate.{snrOf}
+use Rattle.correlation.specs.Correlation.{prepared}
+use Rattle.esprit.specs.Esprit.{estimate}
+use Rattle.dispersion.specs.Dispersion.{dispersionFree}
 
 -- f32 numbers by their patterns
 abbrev zero32 : Float
@@ -23,12 +29,46 @@ one32 = ofBits binary32 0x3f80_0000
 abbrev nine32 : Float
 nine32 = ofBits binary32 0x4110_0000
 
+-- f64 numbers: 0, 1, 2, 3, 4, 40 and their negatives by their patterns
+abbrev zero64 : Float
+zero64 = ofBits binary64 0
+
+abbrev one64 : Float
+one64 = ofBits binary64 0x3ff0_0000_0000_0000
+
+abbrev minusOne64 : Float
+minusOne64 = ofBits binary64 0xbff0_0000_0000_0000
+
+abbrev two64 : Float
+two64 = ofBits binary64 0x4000_0000_0000_0000
+
+abbrev three64 : Float
+three64 = ofBits binary64 0x4008_0000_0000_0000
+
+abbrev four64 : Float
+four64 = ofBits binary64 0x4010_0000_0000_0000
+
+abbrev forty64 : Float
+forty64 = ofBits binary64 0x4044_0000_0000_0000
+
+abbrev minusTwenty64 : Float
+minusTwenty64 = ofBits binary64 0xc034_0000_0000_0000
+
 pub record WorkedValues : Type 0 where
   -- root of 2 is 3ff6a09e667f3bcd
   pub root-of-2 : sqrt binary64 (ofBits binary64 0x4000_0000_0000_0000) ≡ ofBits binary64 0x3ff6_a09e_667f_3bcd
+  -- atan2(+0, -1) is 400921fb54442d18
+  pub atan2-left : atan2Of zero64 minusOne64 ≡ ofBits binary64 0x4009_21fb_5444_2d18
   -- survey of (1, 1) is 3; (1, 0.5) 1; (0, 0) 0; nothing 4; (NaN, 9) 2
   pub survey-clipped : surveyOf (pairs (one32 ∷ one32 ∷ [])) ≡ 3
   pub survey-signal : surveyOf (pairs (one32 ∷ half32 ∷ [])) ≡ 1
   pub survey-silent : surveyOf (pairs (zero32 ∷ zero32 ∷ [])) ≡ 0
   pub survey-empty : surveyOf (pairs []) ≡ 4
   pub survey-nan : surveyOf (pairs (nan ∷ nine32 ∷ [])) ≡ 2
+  -- SNR of four (1, 0) is 40; of none, -20
+  pub snr-four : snrOf (one32 ∷ zero32 ∷ one32 ∷ zero32 ∷ one32 ∷ zero32 ∷ one32 ∷ zero32 ∷ []) ≡ forty64
+  pub snr-none : snrOf [] ≡ minusTwenty64
+  -- nine samples estimate to 0, whichever they are
+  pub estimate-nine : (samples : List Float) (squared : Bool) (rate : Float) → length samples ≡ 18 → estimate (prepared squared samples) rate ≡ zero64
+  -- cancel with f1 2, f2 1, offsets 3 and 0 gives 4
+  pub cancel-two-one : dispersionFree two64 one64 three64 zero64 ≡ four64
