@@ -1,0 +1,22 @@
+-- `wrap` by the range of the modulation.
+use borrow.Author.Needs.{needs}
+use Rattle.measurement.specs.Phase.{wrapped}
+use Rattle.measurement.proofs.modulation.wrap.Statement.{statement}
+use Rattle.measurement.proofs.modulation.wrap.Tie as tie
+
+half-limit-of-requires : tie.Need-half-limit-of-requires
+half-limit-of-requires c κs = search needs
+
+limit-of-requires : tie.Need-limit-of-requires
+limit-of-requires c κs = search needs
+
+rem-euclid-requires : tie.Need-rem-euclid-requires
+rem-euclid-requires c κs = search needs
+
+returns : tie.Need-returns
+unfolding wrapped
+returns c = cc
+
+pub wrap-spec : {M : Type 1} → statement M
+wrap-spec =
+    tie.close (tie.spec half-limit-of-requires limit-of-requires rem-euclid-requires returns)

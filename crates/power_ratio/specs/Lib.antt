@@ -1,0 +1,3 @@
+-- Module 3, the power ratio.
+pub mod Ring
+pub mod PowerRatio

@@ -1,0 +1,6 @@
+-- What the proofs of the tracker's functions cite, on plain values, and what the crates above cite: that no step changes the settings.
+pub mod NanTest
+pub mod CorrectionSteps
+pub mod LockSteps
+pub mod UpdateSteps
+pub mod Settings

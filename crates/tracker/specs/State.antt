@@ -1,0 +1,100 @@
+-- The tracker's value (01, module 3), what changes in it, and how it starts. Definitions only.
+use Prim.Native.Nat.{ℕ}
+use mathlib.Core.Bool.{Bool, true, false}
+use mathlib.Core.List.{List, [], _∷_}
+use lib.ListN.{replicate}
+use lib.Ieee.{Float, binary64, ofBits}
+use Rattle.covariance.specs.Float64.{times, over, zero, one, half, twoPi}
+use Rattle.covariance.specs.Initial.{initialCovariance}
+use Rattle.measurement.specs.declared.modulation.Modulation.{Modulation}
+use Rattle.power_ratio.specs.declared.PowerSums.{PowerSums}
+use Rattle.tracker.specs.declared.state.CarrierPllEkf.{CarrierPllEkf}
+use Rattle.tracker.specs.declared.state.Tracked.{Tracked}
+
+-- the states, the envelope, the count and sums of the power window, the metric, the lock mark and the guard anew; the settings stay
+abbrev pub changed : CarrierPllEkf → List Float → Float → PowerSums → Float → Bool → ℕ → CarrierPllEkf
+changed t x ema power metric locked guard =
+    record {
+      x = x;
+      «q_phase» = t .«q_phase»;
+      «q_freq» = t .«q_freq»;
+      «q_chirp» = t .«q_chirp»;
+      «r_meas» = t .«r_meas»;
+      ts = t .ts;
+      «lock_metric» = metric;
+      «is_locked» = locked;
+      modulation = t .modulation;
+      «envelope_ema» = ema;
+      «adaptive_ekf» = t .«adaptive_ekf»;
+      «dual_lock» = t .«dual_lock»;
+      «pr_pushed» = power .pushed;
+      «pr_sum_abs_i» = power .«sum_abs_i»;
+      «pr_sum_q_sq» = power .«sum_q_sq»;
+      «convergence_guard» = guard;
+      «frequency_ratio» = t .«frequency_ratio»;
+    }
+
+abbrev pub powerOf : CarrierPllEkf → PowerSums
+powerOf t = record { pushed = t .«pr_pushed»; «sum_abs_i» = t .«pr_sum_abs_i»; «sum_q_sq» = t .«pr_sum_q_sq» }
+
+abbrev pub withState : CarrierPllEkf → List Float → CarrierPllEkf
+withState t x = changed t x (t .«envelope_ema») (powerOf t) (t .«lock_metric») (t .«is_locked») (t .«convergence_guard»)
+
+abbrev pub withEnvelope : CarrierPllEkf → Float → CarrierPllEkf
+withEnvelope t e = changed t (t .x) e (powerOf t) (t .«lock_metric») (t .«is_locked») (t .«convergence_guard»)
+
+abbrev pub withPower : CarrierPllEkf → PowerSums → CarrierPllEkf
+withPower t s = changed t (t .x) (t .«envelope_ema») s (t .«lock_metric») (t .«is_locked») (t .«convergence_guard»)
+
+abbrev pub withLock : CarrierPllEkf → Float → Bool → ℕ → CarrierPllEkf
+withLock t metric locked guard = changed t (t .x) (t .«envelope_ema») (powerOf t) metric locked guard
+
+-- six zeros
+abbrev pub zeroState : List Float
+zeroState = replicate 6 zero
+
+-- lost: the states and the metric 0, unlocked; envelope, window, sums and guard stay
+abbrev pub lostTracker : CarrierPllEkf → CarrierPllEkf
+lostTracker t = changed t zeroState (t .«envelope_ema») (powerOf t) zero false (t .«convergence_guard»)
+
+-- an empty window: nothing in it, and both sums 0
+abbrev pub noPower : PowerSums
+noPower = record { pushed = 0; «sum_abs_i» = zero; «sum_q_sq» = zero }
+
+-- the source's noise figures: 0.1, 5,000, 10,000 and 10
+unfoldable pub opened : Float → Modulation → Tracked
+opened fs m =
+    record {
+      ekf =
+          record {
+            x = zeroState;
+            «q_phase» = ofBits binary64 0x3fb9_9999_9999_999a;
+            «q_freq» = ofBits binary64 0x40b3_8800_0000_0000;
+            «q_chirp» = ofBits binary64 0x40c3_8800_0000_0000;
+            «r_meas» = ofBits binary64 0x4024_0000_0000_0000;
+            ts = over one fs;
+            «lock_metric» = zero;
+            «is_locked» = false;
+            modulation = m;
+            «envelope_ema» = one;
+            «adaptive_ekf» = true;
+            «dual_lock» = true;
+            «pr_pushed» = 0;
+            «pr_sum_abs_i» = zero;
+            «pr_sum_q_sq» = zero;
+            «convergence_guard» = 0;
+            «frequency_ratio» = one;
+          };
+      p = initialCovariance;
+    }
+
+-- locked at a phase, a frequency and a chirp in hertz, the second channel's times the ratio; the window empty, the guard at 2,048
+unfoldable pub resetTo : CarrierPllEkf → Float → Float → Float → Tracked
+resetTo t phase hz rate =
+    let f = times twoPi hz in
+    let c = times twoPi rate in
+    let r = t .«frequency_ratio» in
+    record {
+      ekf = changed t (phase ∷ f ∷ c ∷ phase ∷ times f r ∷ times c r ∷ []) one noPower half true 2048;
+      p = initialCovariance;
+    }

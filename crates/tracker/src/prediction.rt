@@ -1,0 +1,47 @@
+// Prediction over the tracker's interval.
+ghost use mathlib.Core.Path.{_≡_};
+ghost use Rattle.tracker.specs.Prediction.{noiseScale, processNoise, predictedBy};
+use crate::state::CarrierPllEkf;
+use crate::state::Tracked;
+use covariance::prediction::ProcessNoise;
+use covariance::states::predict_state;
+use ieee754::order::clamp;
+
+// The factor of the process noise: smaller as the lock gets better.
+fn noise_scale(adaptive: bool, lock_metric: f64) -> f64
+    ensures { λ r. ⌜ r ≡ noiseScale adaptive «lock_metric» ⌝ }
+{
+    if adaptive {
+        return 1.0 - 0.9 * clamp(lock_metric, 0.0, 1.0);
+    }
+    1.0
+}
+
+fn process_noise(t: CarrierPllEkf) -> ProcessNoise
+    ensures { λ r. ⌜ r ≡ processNoise t ⌝ }
+{
+    let s = noise_scale(t.adaptive_ekf, t.lock_metric);
+    let dt = t.ts;
+    ProcessNoise {
+        q_p: t.q_phase * s * dt,
+        q_f: t.q_freq * s * dt,
+        q_c: t.q_chirp * s * dt,
+        ratio: t.frequency_ratio,
+    }
+}
+
+impl CarrierPllEkf {
+    // x becomes F·x, and P the mean of F·P·Fᵀ + Q and its transpose.
+    pub fn predict(self, p: [f64; 36]) -> Tracked
+        ensures { λ r. ⌜ r ≡ predictedBy self p ⌝ }
+    {
+        let dt = self.ts;
+        let x = self.x;
+        let n = process_noise(self);
+        let q = covariance::prediction::predict(p, dt, n);
+        let y = predict_state(x, dt);
+        let mut t = self;
+        t.x = y;
+        Tracked { ekf: t, p: q }
+    }
+}
