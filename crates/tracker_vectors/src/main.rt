@@ -1,11 +1,11 @@
 // Replays answers of the Rust's tracker: prediction, correction, updates for one frequency and two, and reset, on built values. A vector begins
 // with its kind; reference/vectors makes them, and reference/README.md has the fields of each kind. The number of each vector that differs is
 // printed.
-use libc::STDOUT_FILENO;
 use covariance::states::Channel;
 use ieee754::pattern::f32_from_bits;
 use ieee754::pattern::f64_from_bits;
 use ieee754::pattern::f64_to_bits;
+use libc::STDOUT_FILENO;
 use measurement::modulation::Modulation;
 use tracker::correction::Correction;
 use tracker::state::CarrierPllEkf;
@@ -113,7 +113,12 @@ fn next_before(dual_lock: bool, guard: u64) -> Before {
     t.pr_pushed = next_whole() as usize;
     let abs_i = next_f64();
     let q_sq = next_f64();
-    Before { ekf: t, p, abs_i, q_sq }
+    Before {
+        ekf: t,
+        p,
+        abs_i,
+        q_sq,
+    }
 }
 
 // The window: the oldest pair stands in slot 0, where the next one goes if the ring is full or empty.
@@ -187,7 +192,11 @@ fn answer_is_next(c: Correction) -> bool {
 }
 
 fn channel_of(n: u64) -> Channel {
-    if n == 0 { Channel::First } else { Channel::Second }
+    if n == 0 {
+        Channel::First
+    } else {
+        Channel::Second
+    }
 }
 
 fn correct_holds() -> bool {
