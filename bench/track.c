@@ -18,11 +18,7 @@ static void rust(int two) {
     ref_tracker t;
     refp_tracker_new(40000.0, (uint64_t)modulation, &t);
     refp_tracker_reset(&t, window, 0, 0, 0);
-    for (int i = 0; i < PAIRS; i++) {
-        refp_tracker_predict(&t);
-        if (two) refp_tracker_update_dual(&t, window, first + 2 * i, second + 2 * i);
-        else refp_tracker_update(&t, window, first + 2 * i);
-    }
+    refp_tracker_track(&t, window, first, two ? second : 0, 2 * PAIRS);
     sink = t.x[1];
 }
 

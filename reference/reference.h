@@ -80,6 +80,7 @@ typedef struct ref_channel ref_channel; /* opaque */
  * tracker_new      as after the source's `new` at this decimated rate
  * tracker_correct  one correction of channel 0 or 1: 1 and the pair of in-phase value and power
  *                  ratio, or 0 for lost, the two then not written
+ * tracker_track    a prediction and an update for each sample; second is null for one frequency
  * estimate         the frequency estimate, m = 10; the source stops the program if the rate is NaN
  *                  or below 0
  * snr, normalise   of one list
@@ -107,6 +108,8 @@ typedef struct ref_channel ref_channel; /* opaque */
     void prefix##tracker_update(ref_tracker *, double *window, const float *sample);             \
     void prefix##tracker_update_dual(ref_tracker *, double *window, const float *sample1,        \
                                      const float *sample2);                                      \
+    void prefix##tracker_track(ref_tracker *, double *window, const float *first,                \
+                               const float *second, size_t length);                              \
     double prefix##estimate(const float *samples, size_t length, double rate);                   \
     double prefix##snr(const float *samples, size_t length);                                     \
     uint64_t prefix##survey(const float *raw, size_t length);                                    \

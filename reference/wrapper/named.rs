@@ -169,6 +169,25 @@ named!(
     }
 );
 
+// A prediction and an update for each sample of one list or of two, so that a loop is timed without what a single call puts around it.
+named!(
+    "tracker_track",
+    fn tracker_track(tracker: *mut Tracker, window: *mut f64, first: *const f32, second: *const f32, length: usize) {
+        let first = list(first, length);
+        let second = if second.is_null() { &[][..] } else { list(second, length) };
+        single::on_tracker(&mut *tracker, list_mut(window, STRETCH), length / 2, |t| {
+            for k in 0..length / 2 {
+                t.predict();
+                if second.is_empty() {
+                    t.update(sample(&first[2 * k..2 * k + 2]));
+                } else {
+                    t.update_dual(sample(&first[2 * k..2 * k + 2]), sample(&second[2 * k..2 * k + 2]));
+                }
+            }
+        })
+    }
+);
+
 named!(
     "estimate",
     fn estimate(samples: *const f32, length: usize, rate: f64) -> f64 {

@@ -1,0 +1,4 @@
+-- Laws of digits, and of texts laid over a buffer.
+pub mod DigitLaws
+pub mod LaidLaws
+pub mod WorkedLines
