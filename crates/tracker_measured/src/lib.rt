@@ -1,6 +1,7 @@
 // The tracker over a list of samples, for bench/ and for long runs beside the Rust. Nothing else uses this crate.
 ghost use mathlib.Core.Path.{_≡_};
 ghost use lib.ListN.{length};
+ghost use Rattle.tracker_measured.specs.Track.{trackedOver, trackedDual};
 use measurement::modulation::Modulation;
 use tracker::state::CarrierPllEkf;
 use tracker::state::Tracked;
@@ -8,7 +9,7 @@ use tracker::state::Tracked;
 // A prediction and an update for each sample.
 pub fn track(h: Tracked, samples: &[f32], w: &mut [f64]) -> Tracked
     requires { ⌜ length (now w) ≡ 2048 ⌝ }
-    ensures { λ r. ⌜ length (now (w .exit)) ≡ 2048 ⌝ }
+    ensures { λ r. ⌜ (r, now (w .exit)) ≡ trackedOver (now (samples .entry)) (h, now (w .entry)) ⌝ }
 {
     let mut t = h.ekf;
     let mut p = h.p;
@@ -25,18 +26,15 @@ pub fn track(h: Tracked, samples: &[f32], w: &mut [f64]) -> Tracked
     Tracked { ekf: t, p }
 }
 
-// The same for two frequencies, as far as both lists go.
+// The same for two frequencies.
 pub fn track_dual(h: Tracked, first: &[f32], second: &[f32], w: &mut [f64]) -> Tracked
-    requires { ⌜ length (now w) ≡ 2048 ⌝ }
-    ensures { λ r. ⌜ length (now (w .exit)) ≡ 2048 ⌝ }
+    requires { ⌜ (length (now w) ≡ 2048) × (length (now first) ≡ length (now second)) ⌝ }
+    ensures { λ r. ⌜ (r, now (w .exit)) ≡ trackedDual (now (first .entry)) (now (second .entry)) (h, now (w .entry)) ⌝ }
 {
     let mut t = h.ekf;
     let mut p = h.p;
     let mut i = 0;
     while i + 1 < first.len() {
-        if second.len() <= i + 1 {
-            break;
-        }
         let a = t.predict(p);
         let u = a.ekf;
         let q = a.p;
@@ -82,6 +80,9 @@ pub extern "C" fn measured_track_dual(
     ensures { λ r. ⌜ length (now (w .exit)) ≡ length (now (w .entry)) ⌝ }
 {
     if w.len() != 2048 {
+        return 0.0;
+    }
+    if first.len() != second.len() {
         return 0.0;
     }
     let new = CarrierPllEkf::new(rate, modulation_of(modulation));

@@ -1,14 +1,30 @@
--- `tracker_measured::track` is safe and ends, and the window keeps its length. Assumes nothing.
-use mathlib.Core.Path.{_≡_, _∙_, sym}
-use Prim.Native.Nat.{_-_, _≤_}
+-- `tracker_measured::track` meets its contract: what is left of the block makes of the tracker what the whole block makes of the first. Assumes nothing.
+use mathlib.Core.Path.{_≡_, refl, ap, _∙_, sym}
+use mathlib.Core.List.{List}
+use Prim.Native.Nat.{_+_, _-_, _≤_, _<_}
 use native.Mathlib.Omega.{arith}
 use borrow.Author.Needs.{needs}
-use lib.ListN.{length}
+use lib.ListN.{length, drop}
+use lib.Ieee.{Float, nan}
+use Rattle.sequences.specs.Pairs.{pairs, zip}
+use Rattle.sequences.specs.Folds.{fold}
+use Rattle.sequences.proofs.PairLaws.{fold-pairs-next, fold-pairs-end}
+use Rattle.tracker.specs.declared.state.CarrierPllEkf.{CarrierPllEkf}
+use Rattle.tracker.specs.declared.state.Tracked.{Tracked}
+use Rattle.tracker.specs.Prediction.{predictedBy}
+use Rattle.tracker.specs.Update.{updated}
+use Rattle.tracker_measured.specs.Track.{Held, step, trackedOver}
 use Rattle.tracker_measured.proofs.track.Statement.{statement}
 use Rattle.tracker_measured.proofs.track.Tie as tie
 
+-- a prediction and an update are one step
+one-step : (t : CarrierPllEkf) (p w : List Float) (re im : Float) {a : Tracked} {h : Held} → a ≡ predictedBy t p → h ≡ updated (a .ekf) (a .p) w re im
+    → h ≡ step (record { ekf = t; p = p }, w) (re, im)
+unfolding step
+one-step t p w re im e h = h ∙ ap (λ (a : Tracked). updated (a .ekf) (a .p) w re im) e
+
 abbrev Inv-loop : tie.InvT-loop
-Inv-loop samples w₀ t₀ p₀ i₀ w t p i = (i ≤ length samples) × (length w ≡ 2048) × (length w₀ ≡ 2048)
+Inv-loop samples w₀ t₀ p₀ i₀ w t p i = (fold step (record { ekf = t; p = p }, w) (pairs (drop i samples)) ≡ trackedOver samples (record { ekf = t₀; p = p₀ }, w₀)) × (i ≤ length samples) × (length w ≡ 2048)
 
 abbrev μ-loop : tie.MeasureT-loop
 μ-loop samples w₀ t₀ p₀ i₀ w t p i = length samples - i
@@ -47,13 +63,23 @@ loop-less : tie.Need-loop-less Inv-loop μ-loop
 loop-less c = search needs
 
 loop-again : tie.Need-loop-again Inv-loop μ-loop
-loop-again c = search needs
+loop-again c =
+    let l = c .before .before .before .before .before .before .before .before .before .before .before .before in
+    let xs = c .before .before .before .before .before .before .before .before .before .before .before .before .before .before .before .before .before .args .samples .now in
+    let u = c .before .before .before .before .update in
+    let h : l .loop .i + 1 < length xs = c .before .before .before .before .before .before .before .before .before .before .before .loop-test .taken in (
+      fold-pairs-next xs (l .loop .i) step nan h (one-step (l .loop .t) (l .loop .p) (l .loop .w) _ _ (c .before .before .before .before .before .before .before .before .before .before .predict .ensures) (u .ensures)) ∙ l .loop .inv .0,
+      omega arith,
+      u .kept .1 .1 .0 ∙ l .loop .inv .2,
+    )
 
 same-length : tie.Need-same-length Inv-loop μ-loop
 same-length c = search needs
 
 returns : tie.Need-returns Inv-loop μ-loop
-returns c = search needs
+returns c =
+    let l = c .before in
+    sym (fold-pairs-end (c .before .before .before .before .before .before .args .samples .now) (l .loop .i) step (record { ekf = l .loop .t; p = l .loop .p }, l .loop .w) (omega arith)) ∙ l .loop .inv .0
 
 pub track-spec : {M : Type 1} → statement M
 track-spec =

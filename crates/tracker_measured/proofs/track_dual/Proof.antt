@@ -1,14 +1,30 @@
--- `tracker_measured::track_dual` is safe and ends, and the window keeps its length. Assumes nothing.
-use mathlib.Core.Path.{_≡_, _∙_, sym}
-use Prim.Native.Nat.{_-_, _≤_}
+-- `tracker_measured::track_dual` meets its contract: what is left of the block makes of the tracker what the whole block makes of the first. Assumes nothing.
+use mathlib.Core.Path.{_≡_, refl, ap, _∙_, sym}
+use mathlib.Core.List.{List}
+use Prim.Native.Nat.{_+_, _-_, _≤_, _<_}
 use native.Mathlib.Omega.{arith}
 use borrow.Author.Needs.{needs}
-use lib.ListN.{length}
+use lib.ListN.{length, drop}
+use lib.Ieee.{Float, nan}
+use Rattle.sequences.specs.Pairs.{pairs, zip}
+use Rattle.sequences.specs.Folds.{fold}
+use Rattle.sequences.proofs.PairLaws.{fold-zip-next, fold-zip-end}
+use Rattle.tracker.specs.declared.state.CarrierPllEkf.{CarrierPllEkf}
+use Rattle.tracker.specs.declared.state.Tracked.{Tracked}
+use Rattle.tracker.specs.Prediction.{predictedBy}
+use Rattle.tracker.specs.Update.{updatedDual}
+use Rattle.tracker_measured.specs.Track.{Held, stepDual, trackedDual}
 use Rattle.tracker_measured.proofs.track_dual.Statement.{statement}
 use Rattle.tracker_measured.proofs.track_dual.Tie as tie
 
+-- a prediction and an update are one step
+one-step : (t : CarrierPllEkf) (p w : List Float) (re1 im1 re2 im2 : Float) {a : Tracked} {h : Held} → a ≡ predictedBy t p → h ≡ updatedDual (a .ekf) (a .p) w re1 im1 re2 im2
+    → h ≡ stepDual (record { ekf = t; p = p }, w) ((re1, im1), (re2, im2))
+unfolding stepDual
+one-step t p w re1 im1 re2 im2 e h = h ∙ ap (λ (a : Tracked). updatedDual (a .ekf) (a .p) w re1 im1 re2 im2) e
+
 abbrev Inv-loop : tie.InvT-loop
-Inv-loop first second w₀ t₀ p₀ i₀ w t p i = (i ≤ length first) × (length w ≡ 2048) × (length w₀ ≡ 2048)
+Inv-loop first second w₀ t₀ p₀ i₀ w t p i = (fold stepDual (record { ekf = t; p = p }, w) (zip (pairs (drop i first)) (pairs (drop i second))) ≡ trackedDual first second (record { ekf = t₀; p = p₀ }, w₀)) × (i ≤ length first) × (length w ≡ 2048)
 
 abbrev μ-loop : tie.MeasureT-loop
 μ-loop first second w₀ t₀ p₀ i₀ w t p i = length first - i
@@ -18,9 +34,6 @@ loop-holds c = search needs
 
 add-loop : tie.Need-add-loop Inv-loop μ-loop
 add-loop c = search needs
-
-add-if1 : tie.Need-add-if1 Inv-loop μ-loop
-add-if1 c = search needs
 
 predict-requires : tie.Need-predict-requires Inv-loop μ-loop
 predict-requires c κs = search needs
@@ -59,25 +72,31 @@ update-dual-requires : tie.Need-update-dual-requires Inv-loop μ-loop
 update-dual-requires c κs = search needs
 
 add-i : tie.Need-add-i Inv-loop μ-loop
-add-i c = omega (arith, c .before .before .before .before .before .before .before .before .before .before .before .before .before .before .before .before .before .before .before .before .before .good .1 .0 .1, c .before .before .before .before .before .before .before .before .before .before .before .before .before .before .loop-test .taken)
+add-i c = omega (arith, c .before .before .before .before .before .before .before .before .before .before .before .before .before .before .before .before .before .before .before .before .good .1 .0 .1, c .before .before .before .before .before .before .before .before .before .before .before .before .before .loop-test .taken)
 
 loop-less : tie.Need-loop-less Inv-loop μ-loop
 loop-less c = search needs
 
 loop-again : tie.Need-loop-again Inv-loop μ-loop
-loop-again c = search needs
+loop-again c =
+    let l = c .before .before .before .before .before .before .before .before .before .before .before .before .before .before in
+    let s = c .before .before .before .before .before .before .before .before .before .before .before .before .before .before .before .before .before .before .before .before in
+    let xs = s .args .first .now in
+    let u = c .before .before .before .before .update-dual in
+    let h : l .loop .i + 1 < length xs = c .before .before .before .before .before .before .before .before .before .before .before .before .before .loop-test .taken in (
+      fold-zip-next xs (s .args .second .now) (s .pre .1) (l .loop .i) stepDual nan h (one-step (l .loop .t) (l .loop .p) (l .loop .w) _ _ _ _ (c .before .before .before .before .before .before .before .before .before .before .before .before .predict .ensures) (u .ensures)) ∙ l .loop .inv .0,
+      omega arith,
+      u .kept .1 .1 .0 ∙ l .loop .inv .2,
+    )
 
 same-length : tie.Need-same-length Inv-loop μ-loop
 same-length c = search needs
 
 returns : tie.Need-returns Inv-loop μ-loop
-returns c = search needs
-
-same-length-2 : tie.Need-same-length-2 Inv-loop μ-loop
-same-length-2 c = search needs
-
-returns-2 : tie.Need-returns-2 Inv-loop μ-loop
-returns-2 c = search needs
+returns c =
+    let l = c .before in
+    let s = c .before .before .before .before .before .before .before in
+    sym (fold-zip-end (s .args .first .now) (s .args .second .now) (s .pre .1) (l .loop .i) stepDual (record { ekf = l .loop .t; p = l .loop .p }, l .loop .w) (omega arith)) ∙ l .loop .inv .0
 
 pub track-dual-spec : {M : Type 1} → statement M
 track-dual-spec =
@@ -87,7 +106,6 @@ track-dual-spec =
     μ-loop
     loop-holds
     add-loop
-    add-if1
     predict-requires
     mul-update-dual
     shared-slice-read-update-dual
@@ -104,6 +122,4 @@ track-dual-spec =
     loop-less
     loop-again
     same-length
-    returns
-    same-length-2
-    returns-2)
+    returns)

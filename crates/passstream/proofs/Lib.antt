@@ -1,0 +1,3 @@
+-- Laws of a stream of lines.
+pub mod StreamLaws
+pub mod CarryLaws

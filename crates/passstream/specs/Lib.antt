@@ -1,0 +1,2 @@
+-- The pass text as a stream.
+pub mod Stream
