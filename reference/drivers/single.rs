@@ -348,6 +348,18 @@ fn estimate(f: Reference, r: &mut Random) -> Line {
     line
 }
 
+/// As for BPSK: the estimate of the samples' squares, which the source takes with num-complex.
+fn squared(f: Reference, r: &mut Random) -> Line {
+    let rate = r.between(1_000.0, 100_000.0);
+    let list = some_list(r, 40);
+    let squares: Vec<f32> = list.chunks(2).flat_map(|s| [s[0] * s[0] - s[1] * s[1], s[0] * s[1] + s[1] * s[0]]).collect();
+    let mut line = Line::new("squared");
+    line.float(rate);
+    line.list(&list);
+    line.float(f.estimate(&squares, rate));
+    line
+}
+
 fn snr(f: Reference, r: &mut Random) -> Line {
     let list = some_list(r, 30);
     let mut line = Line::new("snr");
@@ -521,7 +533,7 @@ fn cancel(f: Reference, r: &mut Random) -> Line {
 
 type Kind = fn(Reference, &mut Random) -> Line;
 
-const KINDS: [(&str, Kind); 13] = [
+const KINDS: [(&str, Kind); 14] = [
     ("predict", predict),
     ("correct", correct),
     ("update", update),
@@ -535,6 +547,7 @@ const KINDS: [(&str, Kind); 13] = [
     ("figures", figures),
     ("bank", bank),
     ("cancel", cancel),
+    ("squared", squared),
 ];
 
 fn main() {
