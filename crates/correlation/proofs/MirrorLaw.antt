@@ -14,10 +14,10 @@ use lib.Ieee.Fits.{up-pos, add-fits}
 use Rattle.sums.specs.Ascending.{sumFrom}
 use Rattle.sums.specs.Complex.{Cx, zeroC, addC, mulC, conj}
 use Rattle.sums.specs.Interleaved.{at}
-use Rattle.signs.proofs.Commutation.{mul-commutes, add-commutes}
-use Rattle.signs.proofs.Opposites as opposites
-use Rattle.signs.proofs.Opposites.{Opposite, neg-neg, mul-neg, add-neg, add-opposite}
-use Rattle.signs.proofs.MinusZero.{notMinusZero, add-not-minus-zero}
+use Rattle.rounding.proofs.Commutation.{mul-commutes, add-commutes}
+use Rattle.rounding.proofs.Opposites as opposites
+use Rattle.rounding.proofs.Opposites.{Opposite, neg-neg, mul-neg, add-neg, add-opposite}
+use Rattle.rounding.proofs.MinusZero.{notMinusZero, add-not-minus-zero}
 use Rattle.correlation.specs.Correlation.{lagProduct, lagSum}
 use Rattle.correlation.specs.RunningSums.{turned}
 

@@ -11,7 +11,7 @@ use lib.IntN.{ℤ, pos}
 use lib.Ieee.{Float, nan, inf, fin, Format, binary32, binary64, up, down, low, prec, emax, unlike, neg, round, units, odd, sum, add, mul, size, span, climb}
 use lib.Ieee.Fits.{up-pos, down-pos}
 use lib.Ieee.Scale.{round-same}
-use Rattle.signs.proofs.Commutation.{add-commutes, no-difference}
+use Rattle.rounding.proofs.Commutation.{add-commutes, no-difference}
 
 pub data Opposite : Float → Float → Type 0 where
   turned : (x : Float) → Opposite x (neg x)

@@ -14,7 +14,7 @@ use lib.Ieee.{Float, nan, inf, fin, Format, binary32, binary64, up, down, low, p
 use lib.Ieee.Fits.{up-pos, down-pos, and-l, and-r}
 use lib.Ieee.Order.{round-mono}
 use lib.Ieee.Positive.{positive, above, above-of-le}
-use Rattle.signs.proofs.Opposites.{neg-round}
+use Rattle.rounding.proofs.Opposites.{neg-round}
 
 abbrev pub notMinusZero : Float → Bool
 notMinusZero nan = true

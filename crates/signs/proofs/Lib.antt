@@ -1,4 +1,0 @@
--- Signs and exchange, for any format.
-pub mod Commutation
-pub mod Opposites
-pub mod MinusZero
