@@ -1,6 +1,6 @@
 //! Seeded lists of calls and their answers, as text on standard output.
 //!
-//!     calls [--build exported|platform|counted] [--seed N] [--lists N] [--longest PAIRS] [--brief 1]
+//!     calls [--build exported|platform|counted] [--seed N] [--lists N] [--longest PAIRS] [--brief 1] [--port 1]
 //!
 //! One call a line, ` = ` before its answer. Lines:
 //!
@@ -15,18 +15,24 @@
 //!
 //! Lists are run-on hexadecimal f32, `-` if empty, and `same` in the answer if no bit changed.
 //! WINDOW is the digest of the 8,192 numbers (values.rs, `digest`). With `--brief 1` lists are
-//! written as their digest, so that long runs can be compared without their samples.
+//! written as their digest, so that long runs can be compared without their samples. With `--port 1` nothing is
+//! written: each call is made to the port too, and all that differs in a bit is told on standard error.
 
 mod api;
+mod beside;
+mod port;
 mod values;
 
 use api::shapes::{MEMORY, STRETCH, Settings};
-use api::{Channel, Reference, new_window};
+use api::{Reference, new_window};
+use beside::{Beside, Tally};
 use std::io::Write;
 use values::{ODD, Random, Signal, Words, digest, hex, hex32, stop};
 
 struct Run<'a, W: Write> {
     reference: Reference,
+    with_port: bool,
+    tally: &'a mut Tally,
     random: Random,
     window: Vec<f64>,
     settings: Settings,
@@ -85,7 +91,9 @@ fn usual_frequency(r: &mut Random) -> f64 {
 
 impl<W: Write> Run<'_, W> {
     fn line(&mut self, text: &str) {
-        writeln!(self.out, "{text}").expect("standard output can be written");
+        if !self.with_port {
+            writeln!(self.out, "{text}").expect("standard output can be written");
+        }
     }
 
     fn written(&self, list: &[f32]) -> String {
@@ -99,9 +107,9 @@ impl<W: Write> Run<'_, W> {
         }
     }
 
-    fn open(&mut self) -> Channel {
+    fn open(&mut self) -> Beside {
         let s = if self.random.chance(4) { odd_settings(&mut self.random) } else { usual_settings(&mut self.random) };
-        let (refusal, channel) = self.reference.open(&s);
+        let (refusal, channel) = Beside::open(self.reference, self.with_port, &s, self.tally);
         self.settings = s;
         if refusal != 0 {
             self.settings = Settings { rate: 1_000, factor: 1, modulation: 0, two: 0, bank: 0, ..s };
@@ -114,10 +122,10 @@ impl<W: Write> Run<'_, W> {
         channel
     }
 
-    fn assign(&mut self, channel: &mut Channel, odd: bool) {
+    fn assign(&mut self, channel: &mut Beside, odd: bool) {
         let r = &mut self.random;
         let f: [f64; 4] = [0; 4].map(|_| if odd { frequency(r) } else { usual_frequency(r) });
-        let refusal = channel.assign(f[0], f[1], f[2], f[3]);
+        let refusal = channel.assign(f, self.tally);
         self.line(&format!("assign {} {} {} {} = {refusal}", hex(f[0]), hex(f[1]), hex(f[2]), hex(f[3])));
     }
 
@@ -137,16 +145,19 @@ impl<W: Write> Run<'_, W> {
 
     fn block(
         &mut self,
-        channel: &mut Channel,
+        channel: &mut Beside,
         flag: u64,
         mut first: Vec<f32>,
         mut second: Vec<f32>,
         length: usize,
     ) -> u32 {
+        if self.with_port {
+            return channel.block(flag, &mut first, &mut second, &mut self.window[..length], self.tally).locked;
+        }
         let (first_before, second_before) = (self.written(&first), self.written(&second));
         let bits = |list: &[f32]| list.iter().map(|v| v.to_bits()).collect::<Vec<u32>>();
         let (bits1, bits2) = (bits(&first), bits(&second));
-        let a = channel.block(flag, &mut first, &mut second, &mut self.window[..length]);
+        let a = channel.block(flag, &mut first, &mut second, &mut self.window[..length], self.tally);
         let first_after = if bits(&first) == bits1 { "same".to_string() } else { self.written(&first) };
         let second_after = if bits(&second) == bits2 { "same".to_string() } else { self.written(&second) };
         let window = digest(&self.window[..MEMORY]);
@@ -158,18 +169,18 @@ impl<W: Write> Run<'_, W> {
         a.locked
     }
 
-    fn figures(&mut self, channel: &Channel) {
-        let twelve = channel.figures().map(hex32).join(" ");
+    fn figures(&mut self, channel: &Beside) {
+        let twelve = channel.figures(self.tally).map(hex32).join(" ");
         self.line(&format!("figures = {twelve}"));
     }
 
-    fn release(&mut self, channel: &mut Channel) {
-        channel.release();
+    fn release(&mut self, channel: &mut Beside) {
+        channel.release(self.tally);
         self.line("release");
     }
 
     /// A block with something wrong in it, for every refusal from 7 to 12.
-    fn odd_block(&mut self, channel: &mut Channel) {
+    fn odd_block(&mut self, channel: &mut Beside) {
         let r = &mut self.random;
         let pairs = r.below(4) as usize;
         let some = |r: &mut Random, n: usize| (0..n).map(|_| r.noise() as f32).collect::<Vec<f32>>();
@@ -244,7 +255,7 @@ impl<W: Write> Run<'_, W> {
     }
 
     /// Assign, blocks of a signal that comes and goes, flags in between, release or not.
-    fn pass(&mut self, channel: &mut Channel) {
+    fn pass(&mut self, channel: &mut Beside) {
         self.assign(channel, false);
         let decimated = self.settings.rate as f64 / self.settings.factor as f64;
         let modulation = self.settings.modulation;
@@ -289,7 +300,7 @@ impl<W: Write> Run<'_, W> {
         }
     }
 
-    fn idle_calls(&mut self, channel: &mut Channel) {
+    fn idle_calls(&mut self, channel: &mut Beside) {
         for flag in 0..5 {
             let list = if flag < 2 && self.settings.two == 0 { vec![0.5, 0.5] } else { Vec::new() };
             self.block(channel, flag, list, Vec::new(), MEMORY);
@@ -307,13 +318,16 @@ fn main() {
     let (seed, lists) = (words.number("--seed", 1), words.number("--lists", 10));
     let longest = words.number("--longest", 4_096).min(4_096);
     let brief = words.number("--brief", 0) != 0;
+    let with_port = words.number("--port", 0) != 0;
+    let mut tally = Tally::default();
     let mut out = std::io::BufWriter::new(std::io::stdout().lock());
     for list in seed..seed + lists {
         let mut window = new_window();
         window.push(0.0); // so that one number too many can be lent
         let mut random = Random::new(list);
         let settings = usual_settings(&mut random);
-        let mut run = Run { reference, random, window, settings, brief, longest, out: &mut out };
+        let mut run =
+            Run { reference, with_port, tally: &mut tally, random, window, settings, brief, longest, out: &mut out };
         run.line(&format!("list {list}"));
         let mut channel = run.open();
         if run.random.chance(2) {
@@ -325,4 +339,8 @@ fn main() {
     }
     out.flush().expect("standard output can be written");
     reference.counts();
+    if with_port {
+        tally.print();
+        std::process::exit((tally.differing != 0) as i32);
+    }
 }

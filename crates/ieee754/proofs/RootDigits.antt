@@ -1,12 +1,16 @@
--- The arithmetic of the digit loop. Assumes nothing.
+-- The arithmetic of the digit loop and of the check of a guess. Assumes nothing.
 use mathlib.Core.Path.{_≡_, refl, sym, ap, _∙_, subst}
 use mathlib.Core.Logic.{_⊎_, inl, inr}
+use mathlib.Core.Bool.{Bool, true, false}
 use Prim.Native.Nat.{ℕ, zero, suc, _+_, _-_, _*_, _/_, _%_, _^_, _≤_, _<_}
 use native.Mathlib.Nat.{le-trans, le-of-eq, lt-of-le-of-lt, lt-of-lt-of-le, mul-le-mul, mul-le-mul-left, pow-suc, mod-lt}
 use native.Mathlib.Omega.{arith}
 use lib.Pow.{pow-mono, shr-shr, shr-le}
-use lib.Dec.{lit≤}
+use lib.Dec.{lit≤, ltb}
 use lib.Bits.{bitAnd, and-mask}
+use mir.Val.{boolByte}
+use borrow.Author.Tests.{lt-ltb, le-ltb}
+use Rattle.rounding.proofs.Comparison.{lt-or-le}
 use Rattle.ieee754.specs.SquareRoot.{NearestRoot}
 use Rattle.ieee754.proofs.IntegerRoot.{sq-lt-back}
 
@@ -82,14 +86,50 @@ half-near M q rest P e l = elim (parity q) [
     odd : (x y : ℕ) → x ≡ 2 * y + 1 → y + 1 ≡ (x + 1) / 2
     odd x y e = omega arith
 
--- ---- the check of a guess: with r in two halves, H and Y are what is left of m * 2 ^ 52 + r (and 2 ^ 52 more) after each product, X the last
-pub near-check : (m a b r H Y X : ℕ) → r ≡ a * 67108864 + b → H + a * a ≡ m + 1 → Y + 2 * a * b ≡ H * 67108864 + a → X + (b * b + 4503599627370496) ≡ Y * 67108864 + b → 0 < X → X ≤ 2 * r → NearestRoot (m * 4503599627370496) r
-near-check m a b r H Y X er eh ey ex lo hi =
-    let s : r * r ≡ (a * 67108864 + b) * (a * 67108864 + b) = ap (λ (z : ℕ). z * z) er in
-    record { above = omega arith; below = omega arith }
+-- ---- the check of a guess: with q in two halves, H and Y are what is left of m * 2 ^ 52 after each product, X the last
+pub excess-is : (m a b q H Y X : ℕ) → q ≡ a * 67108864 + b → H + a * a ≡ m → Y + 2 * a * b ≡ H * 67108864 → X + b * b ≡ Y * 67108864 → q * q + X ≡ m * 4503599627370496
+excess-is m a b q H Y X eq eh ey ex =
+    let s : q * q ≡ (a * 67108864 + b) * (a * 67108864 + b) = ap (λ (z : ℕ). z * z) eq in
+    omega arith
 
 pub half-square : (a : ℕ) → a ≤ 268435456 → a * a ≤ 72057594037927936
 half-square a h = mul-le-mul h h
 
 pub cross-fits : (a b : ℕ) → a ≤ 268435456 → b ≤ 67108864 → a * b ≤ 18014398509481984
 cross-fits a b h k = mul-le-mul h k
+
+byte-small : (b : Bool) → boolByte b ≤ 1
+byte-small false = lit≤ tt
+byte-small true = lit≤ tt
+
+pub one-fits : (q : ℕ) (b : Bool) → q < 2 ^ 53 → q + boolByte b < 2 ^ 64
+one-fits q b h = let k = byte-small b in omega arith
+
+pub two-fit : (q : ℕ) (b c : Bool) → q < 2 ^ 53 → q + boolByte b + boolByte c < 2 ^ 64
+two-fit q b c h = let k = byte-small b in let l = byte-small c in omega arith
+
+-- the nearest root by what q * q falls short of M by
+as-guessed : (M q x : ℕ) → 0 < M → q * q + x ≡ M → x ≤ q → NearestRoot M (q + 0 + 0)
+as-guessed M zero x P e l = absurd (none M x P e l)
+  where
+    none : (M x : ℕ) → 0 < M → 0 + x ≡ M → x ≤ 0 → ⊥
+    none M x P e l = omega arith
+as-guessed M (suc q) x P e l = record { above = omega arith; below = omega arith }
+
+one-more : (M q x : ℕ) → q * q + x ≡ M → q < x → x ≤ 3 * q + 2 → NearestRoot M (q + 1 + 0)
+one-more M q x e h l = record { above = omega arith; below = omega arith }
+
+two-more : (M q x : ℕ) → q * q + x ≡ M → 3 * q + 2 < x → x ≤ 5 * q + 6 → NearestRoot M (q + 1 + 1)
+two-more M q x e h l = record { above = omega arith; below = omega arith }
+
+pub counted : (M q x : ℕ) → 0 < M → q * q + x ≡ M → x ≤ 5 * q + 6 → NearestRoot M (q + boolByte (ltb q x) + boolByte (ltb (3 * q + 2) x))
+counted M q x P e l = elim (lt-or-le q x) [
+  | inl a ↦ elim (lt-or-le (3 * q + 2) x) [
+    | inl b ↦ rw (lt-ltb q x a, lt-ltb (3 * q + 2) x b) (two-more M q x e b l)
+    | inr b ↦ rw (lt-ltb q x a, le-ltb (3 * q + 2) x b) (one-more M q x e a b)
+  ]
+  | inr a ↦ rw (le-ltb q x a, le-ltb (3 * q + 2) x (wide q x a)) (as-guessed M q x P e a)
+]
+  where
+    wide : (q x : ℕ) → x ≤ q → x ≤ 3 * q + 2
+    wide q x h = omega arith

@@ -1,19 +1,27 @@
--- The absolute value, by the tests of `ieee754::sign::abs`. Assumes nothing.
+-- The absolute value, by the tests of `ieee754::sign`. For any format. Assumes nothing.
 use mathlib.Core.Path.{_≡_, refl, sym, ap, _∙_, subst}
 use mathlib.Core.Bool.{Bool, true, false, not, _&&_, _||_, true≢false}
-use Prim.Native.Nat.{ℕ, zero, suc, _+_, _*_, _≤_, _<_}
+use Prim.Native.Nat.{ℕ, zero, suc, _+_, _*_, _%_, _≤_, _<_}
+use native.Mathlib.Nat.{div-eq-of-lt, mod-eq-of-lt}
 use native.Mathlib.Omega.{arith}
 use lib.IntN.{pos}
 use lib.Dec.{T, ltb, eqb, ltb→lt, nltb→le, eqb→eq, T-not}
-use lib.Ieee.{Float, nan, inf, fin, Format, binary64, up, down, fits, lt, eq, neg, ofBits}
+use lib.Ieee.{Float, nan, inf, fin, Format, hid, top, up, down, fits, lt, eq, neg, odd, ofFields, ofBits}
 use lib.Ieee.Fits.{and-l}
 use lib.Ieee.Back.{whole-unique}
 use Rattle.ieee754.specs.Sign.{absolute, plusZero}
-use Rattle.ieee754.proofs.Fields.{yes, no}
+use Rattle.ieee754.proofs.Fields.{yes, no, fields, infinity, infinity-below, hid-pos}
 
-pub zero-is : ofBits binary64 0 ≡ plusZero
-unfolding ofBits
-zero-is = refl
+under : (a b : ℕ) → a < b → 0 < b
+under a b h = omega arith
+
+-- the pattern without a set digit
+pub zero-is : (f : Format) → ofBits f 0 ≡ plusZero
+unfolding ofFields odd
+zero-is f =
+    fields f false 0 (under (infinity f) (top f) (infinity-below f))
+    ∙ ap (λ (x : ℕ). ofFields f false x (0 % hid f)) (div-eq-of-lt (hid-pos f))
+    ∙ ap (λ (t : ℕ). ofFields f false 0 t) (mod-eq-of-lt (hid-pos f))
 
 none : (a d : ℕ) → a < 0 * 1 * d → ⊥
 none a d h = omega arith
@@ -31,17 +39,17 @@ unfolding fits
 abs-fits f s zero e h = h
 abs-fits f s (suc m) e h = h
 
-zero-fits : T (fits binary64 plusZero)
+zero-fits : (f : Format) → T (fits f plusZero)
 unfolding fits
-zero-fits = tt
+zero-fits f = tt
 
-pub abs-zero : (x : Float) → T (fits binary64 x) → eq x plusZero ≡ true → plusZero ≡ absolute x
+pub abs-zero : (f : Format) (x : Float) → T (fits f x) → eq x plusZero ≡ true → plusZero ≡ absolute x
 unfolding eq absolute
-abs-zero nan F h = absurd (true≢false (sym h))
-abs-zero (inf s) F h = absurd (true≢false (sym h))
-abs-zero (fin s m e) F h =
+abs-zero f nan F h = absurd (true≢false (sym h))
+abs-zero f (inf s) F h = absurd (true≢false (sym h))
+abs-zero f (fin s m e) F h =
     let a : m * up e * 1 ≡ 0 * 1 * down e = eqb→eq (m * up e * 1) (0 * 1 * down e) (and-l (eqb (m * up e * 1) (0 * 1 * down e)) (mathlib.Core.Bool.Bool·beq s false || eqb (m * up e * 1) 0) (yes h)) in
-    whole-unique binary64 plusZero (fin false m e) false 0 zero-fits (abs-fits binary64 s m e F) (refl, refl) (refl, a)
+    whole-unique f plusZero (fin false m e) false 0 (zero-fits f) (abs-fits f s m e F) (refl, refl) (refl, a)
 
 clash : (a b : ℕ) → b ≡ 0 → ltb 0 (a + b) ≡ false → eqb a b && (false || eqb a 0) ≡ false → ⊥
 clash a b e h k =

@@ -48,111 +48,85 @@ fn digit_by_digit(m: u64) -> u64
     (p.q + 1) / 2
 }
 
-// Whether r is the whole number nearest to the root of m * 2 ^ 52: whether m * 2 ^ 52 + r - r * r is from 1 to 2 * r. It is worked out
-// with r in two halves, from the highest digits down. The answer false says nothing.
-fn is_nearest(m: u64, r: u64) -> bool
-    requires { ⌜ (m < 2 ^ 54) × (r < 2 ^ 54) ⌝ }
-    ensures { λ b. ⌜ (b ≡ true → NearestRoot (m * 2 ^ 52) r) ⌝ }
+// m * 2 ^ 52 - q * q, worked out with q in two halves, from the highest digits down. A result from 2 ^ 62 on says nothing.
+fn excess(m: u64, q: u64) -> u64
+    requires { ⌜ (m < 2 ^ 54) × (q < 2 ^ 53) ⌝ }
+    ensures { λ x. ⌜ (x < 2 ^ 62 → q * q + x ≡ m * 2 ^ 52) ⌝ }
 {
-    let a = r / 0x400_0000;
-    let b = r % 0x400_0000;
+    let a = q / 0x400_0000;
+    let b = q % 0x400_0000;
     let square = a * a;
-    if m + 1 < square {
-        return false;
+    if m < square {
+        return 0x4000_0000_0000_0000;
     }
-    let high = m + 1 - square;
+    let high = m - square;
     if high >= 0x10_0000_0000 {
-        return false;
+        return 0x4000_0000_0000_0000;
     }
-    let whole = high * 0x400_0000 + a;
+    let whole = high * 0x400_0000;
     let cross = 2 * a * b;
     if whole < cross {
-        return false;
+        return 0x4000_0000_0000_0000;
     }
     let middle = whole - cross;
     if middle >= 0x10_0000_0000 {
-        return false;
+        return 0x4000_0000_0000_0000;
     }
-    let sum = middle * 0x400_0000 + b;
-    let off = b * b + 0x10_0000_0000_0000;
-    if sum <= off {
-        return false;
+    let last = middle * 0x400_0000;
+    let off = b * b;
+    if last < off {
+        return 0x4000_0000_0000_0000;
     }
-    sum - off <= 2 * r
+    last - off
 }
 
-// Newton's method on floats for the root of x, whose pattern is bits. Nothing is claimed of the result.
-fn newton(x: f64, bits: u64) -> f64
-    requires { ⌜ bits ≤ 0x7ff0_0000_0000_0000 ⌝ }
-{
-    let h = x * 0.5;
-    let mut y: f64 = f64::from_bits(0x5fe6_eb50_c7b5_37a9 - bits / 2);
-    y = y * (1.5 - h * y * y);
-    y = y * (1.5 - h * y * y);
-    y = y * (1.5 - h * y * y);
-    y = y * (1.5 - h * y * y);
-    let s = x * y;
-    s + 0.5 * y * (x - s * s)
-}
-
-fn pick(b: bool, x: f64, y: f64) -> f64 {
-    if b { x } else { y }
-}
-
-// A first root of x, from 1 to 4. Near 1 and near 4, where the squared amplitudes of normalised samples lie, three terms of the series do.
-fn start(x: f64, bits: u64) -> f64
-    requires { ⌜ bits ≤ 0x7ff0_0000_0000_0000 ⌝ }
-{
-    let big = x >= 2.0;
-    let d = x - pick(big, 4.0, 1.0);
-    if d * d < 0.0000000001 {
-        let c = pick(big, 0.25, 0.5);
-        let e = pick(big, 0.015625, 0.125);
-        return pick(big, 2.0, 1.0) + d * (c - d * e);
-    }
-    newton(x, bits)
-}
-
-// A guess at the root of m * 2 ^ 52. Nothing is claimed of it but its size: `is_nearest` says whether it is right.
-fn guess(m: u64) -> u64
-    requires { ⌜ (2 ^ 52 ≤ m) × (m < 2 ^ 54) ⌝ }
-    ensures { λ r. ⌜ r ≤ 2 ^ 53 ⌝ }
-{
-    let mut bits = m + 0x3fe0_0000_0000_0000;
-    if m >= 0x20_0000_0000_0000 {
-        bits = m / 2 + 0x3ff0_0000_0000_0000;
-    }
-    let x: f64 = f64::from_bits(bits);
-    let t = start(x, bits);
-    if t >= 1.0 {
-        let b: u64 = f64::to_bits(t);
-        if b <= 0x4000_0000_0000_0000 {
-            if b >= 0x3fe0_0000_0000_0000 {
-                return b - 0x3fe0_0000_0000_0000;
-            }
-        }
-    }
-    0
-}
-
-// The whole number nearest to the root of m * 2 ^ 52: the guess or a neighbour where the check says so, digit by digit where it does not.
-fn nearest_root(m: u64) -> u64
+// The whole number nearest to the root of m * 2 ^ 52, by a guess q just below it: q, q + 1 or q + 2, by how far q * q falls short. Both
+// comparisons are counted and not branched on, since they go either way. Where it is none of the three, digit by digit.
+fn nearest_root(m: u64, q: u64) -> u64
     requires { ⌜ (2 ^ 52 ≤ m) × (m < 2 ^ 54) ⌝ }
     ensures { λ r. ⌜ NearestRoot (m * 2 ^ 52) r ⌝ }
 {
-    let r = guess(m);
-    if is_nearest(m, r) {
-        return r;
-    }
-    if is_nearest(m, r + 1) {
-        return r + 1;
-    }
-    if r > 0 {
-        if is_nearest(m, r - 1) {
-            return r - 1;
+    if q < 0x20_0000_0000_0000 {
+        let x = excess(m, q);
+        if x <= 5 * q + 6 {
+            return q + (x > q) as u64 + (x > 3 * q + 2) as u64;
         }
     }
     digit_by_digit(m)
+}
+
+// A root, and half the inverse of it.
+struct Estimate {
+    root: f64,
+    half: f64,
+}
+
+// One step of Goldschmidt's iteration, which doubles the digits that are right.
+fn refined(e: Estimate) -> Estimate {
+    let t = 1.5 - e.root * e.half;
+    Estimate {
+        root: e.root * t,
+        half: e.half * t,
+    }
+}
+
+// A guess at the root, in units of 2 ^ -52 and less one of them, of the float from 1 to 4 with the pattern bits. The start, from half the
+// pattern, has four digits right; three steps and a last correction make that all but the last. Nothing is claimed of it.
+fn guess(bits: u64) -> u64
+    requires { ⌜ bits ≤ 0x7ff0_0000_0000_0000 ⌝ }
+{
+    let x: f64 = f64::from_bits(bits);
+    let y: f64 = f64::from_bits(0x5fe6_eb50_c7b5_37a9 - bits / 2);
+    let e = refined(refined(refined(Estimate {
+        root: x * y,
+        half: 0.5 * y,
+    })));
+    let t = e.root + e.half * (x - e.root * e.root);
+    if t >= 0.5 {
+        let b: u64 = f64::to_bits(t);
+        return std::num::wrapping_sub_u64(b, 0x3fe0_0000_0000_0001);
+    }
+    0
 }
 
 // The pattern of the root of m * 2 ^ (p + 52), in units of the smallest value.
@@ -160,7 +134,8 @@ fn root_bits(m: u64, p: u64) -> u64
     requires { ⌜ (2 ^ 52 ≤ m) × (m < 2 ^ 53) × (p < 3072) ⌝ }
     ensures { λ r. ⌜ (ofBits binary64 r ≡ roundRoot binary64 (m * 2 ^ (p + 52))) × (r < 0x7ff0_0000_0000_0000) ⌝ }
 {
-    (p / 2) * 0x10_0000_0000_0000 + nearest_root(m * (p % 2 + 1))
+    let q = guess(m + (p % 2 + 1022) * 0x10_0000_0000_0000);
+    (p / 2) * 0x10_0000_0000_0000 + nearest_root(m * (p % 2 + 1), q)
 }
 
 // The square root. A subnormal significand is first shifted up past its leading zeros.

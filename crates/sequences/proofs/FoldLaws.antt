@@ -20,6 +20,20 @@ unfolding fold
 fold-keeps P f keeps s [] p = p
 fold-keeps P f keeps s (a ∷ xs) p = fold-keeps P f keeps (f s a) xs (keeps s a p)
 
+-- what each step keeps of two states, the folds keep
+pub fold-related {ℓ ℓ′ ℓ″ ℓ‴} : {S : Type ℓ} {U : Type ℓ′} {A : Type ℓ″} (R : S → U → Type ℓ‴) (f : S → A → S) (g : U → A → U) → ((s : S) (u : U) (a : A) → R s u → R (f s a) (g u a)) → (s : S) (u : U) (xs : List A) → R s u → R (fold f s xs) (fold g u xs)
+unfolding fold
+fold-related R f g keeps s u [] r = r
+fold-related R f g keeps s u (a ∷ xs) r = fold-related R f g keeps (f s a) (g u a) xs (keeps s u a r)
+
+and-assoc : (a b c : Bool) → ((a && b) && c) ≡ (a && (b && c))
+and-assoc true b c = refl
+and-assoc false b c = refl
+
+pub and-true : (a : Bool) → (a && true) ≡ a
+and-true true = refl
+and-true false = refl
+
 module _ {ℓ} {A : Type ℓ} (xs : List A) (i : ℕ) where
   -- a loop that folds: one turn, and the end
   pub fold-next {ℓ′} : {S : Type ℓ′} (f : S → A → S) (d : A) {s s' : S} → i < length xs → s' ≡ f s (getD xs i d) → fold f s' (drop (i + 1) xs) ≡ fold f s (drop i xs)
@@ -44,3 +58,10 @@ module _ {ℓ} {A : Type ℓ} (xs : List A) (i : ℕ) where
   pub every-end : (p : A → Bool) → length xs ≤ i → every p (drop i xs) ≡ true
   unfolding every
   every-end p h = rw (drop-of-length-le xs h)
+
+  -- a loop that reads to the end and marks whether every element so far passed
+  pub every-marked-next : (p : A → Bool) (d : A) (m : Bool) {m' : Bool} → i < length xs → m' ≡ (m && p (getD xs i d)) → (m' && every p (drop (i + 1) xs)) ≡ (m && every p (drop i xs))
+  every-marked-next p d m h e = rw (every-step p d h, e) (and-assoc m (p (getD xs i d)) (every p (drop (i + 1) xs)))
+
+  pub every-marked-end : (p : A → Bool) (m : Bool) → length xs ≤ i → (m && every p (drop i xs)) ≡ m
+  every-marked-end p m h = rw (every-end p h) (and-true m)

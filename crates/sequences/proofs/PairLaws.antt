@@ -2,6 +2,7 @@
 use mathlib.Core.Path.{_≡_, refl, ap, sym, _∙_}
 use mathlib.Core.Bool.{Bool, true, false, _||_}
 use mathlib.Core.List.{List, [], _∷_, _++_, append-assoc}
+use mathlib.Core.Logic.{_⊎_, inl, inr}
 use Prim.Native.Nat.{ℕ, suc, _+_, _≤_, _<_}
 use native.Mathlib.Numerals.{add-one}
 use native.Mathlib.Omega.{arith}
@@ -29,6 +30,12 @@ or-assoc false b c = refl
 or-false : (a : Bool) → (a || false) ≡ a
 or-false true = refl
 or-false false = refl
+
+-- nothing beside nothing
+zip-none {ℓ ℓ′ ℓ″} : {A : Type ℓ} {B : Type ℓ′} {S : Type ℓ″} (f : S → A × B → S) (s : S) (xs : List A) → fold f s (zip xs []) ≡ s
+unfolding fold zip
+zip-none f s [] = refl
+zip-none f s (x ∷ xs) = refl
 
 module _ {ℓ} {A : Type ℓ} (xs : List A) (i : ℕ) where
   -- what is left at i is the pair at i and what is left at i + 2
@@ -92,17 +99,29 @@ module _ {ℓ} {A : Type ℓ} (xs : List A) (i : ℕ) where
   pub mapPairs-end : (f : A × A → A × A) → length xs ≤ i + 1 → take i xs ++ mapPairs f (drop i xs) ≡ xs
   mapPairs-end f h = ap (λ (l : List A). take i xs ++ l) (mapPairs-short f (drop i xs) (simp length-drop (omega arith))) ∙ take-append-drop i xs
 
--- a loop that folds the pairs of two lists of one length side by side
+-- a loop that folds the pairs of two lists side by side, as far as both go: one turn, and the end where either has no pair left
+module _ {ℓ} {A : Type ℓ} (xs ys : List A) (i : ℕ) where
+  pub fold-both-next {ℓ′} : {S : Type ℓ′} (f : S → (A × A) × (A × A) → S) (d : A) {s s' : S} → i + 1 < length xs → i + 1 < length ys
+      → s' ≡ f s ((getD xs i d, getD xs (i + 1) d), (getD ys i d, getD ys (i + 1) d))
+      → fold f s' (zip (pairs (drop (i + 2) xs)) (pairs (drop (i + 2) ys))) ≡ fold f s (zip (pairs (drop i xs)) (pairs (drop i ys)))
+  unfolding fold zip
+  fold-both-next f d h h' e = rw (pairs-next xs i d h, pairs-next ys i d h', e)
+
+  pub fold-both-end {ℓ′} : {S : Type ℓ′} (f : S → (A × A) × (A × A) → S) (s : S) → (length xs ≤ i + 1) ⊎ (length ys ≤ i + 1)
+      → fold f s (zip (pairs (drop i xs)) (pairs (drop i ys))) ≡ s
+  unfolding fold zip
+  fold-both-end f s (inl h) = rw (pairs-end xs i h)
+  fold-both-end f s (inr h) = rw (pairs-end ys i h) (zip-none f s (pairs (drop i xs)))
+
+-- the same for two lists of one length
 module _ {ℓ} {A : Type ℓ} (xs ys : List A) (same : length xs ≡ length ys) (i : ℕ) where
   pub fold-zip-next {ℓ′} : {S : Type ℓ′} (f : S → (A × A) × (A × A) → S) (d : A) {s s' : S} → i + 1 < length xs
       → s' ≡ f s ((getD xs i d, getD xs (i + 1) d), (getD ys i d, getD ys (i + 1) d))
       → fold f s' (zip (pairs (drop (i + 2) xs)) (pairs (drop (i + 2) ys))) ≡ fold f s (zip (pairs (drop i xs)) (pairs (drop i ys)))
-  unfolding fold zip
-  fold-zip-next f d h e = let h' : i + 1 < length ys = omega arith in rw (pairs-next xs i d h, pairs-next ys i d h', e)
+  fold-zip-next f d h e = fold-both-next xs ys i f d h (omega arith) e
 
   pub fold-zip-end {ℓ′} : {S : Type ℓ′} (f : S → (A × A) × (A × A) → S) (s : S) → length xs ≤ i + 1 → fold f s (zip (pairs (drop i xs)) (pairs (drop i ys))) ≡ s
-  unfolding fold zip
-  fold-zip-end f s h = rw (pairs-end xs i h)
+  fold-zip-end f s h = fold-both-end xs ys i f s (inl h)
 
 -- where there is no whole pair, and where there is one
 pub pairs-none {ℓ} : {A : Type ℓ} (xs : List A) → length xs < 2 → pairs xs ≡ []

@@ -1,1 +1,3 @@
+pub mod RatesAndFades
+pub mod PassExample
 pub mod Proved

@@ -1,1 +1,3 @@
+pub mod Openings
+pub mod PassList
 pub mod Table

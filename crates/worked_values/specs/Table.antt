@@ -1,6 +1,7 @@
--- "Values on both sides", those marked P: one table, which proofs/Proved.antt proves of the definitions. Definitions only.
+-- "Values on both sides", those marked P, and the example of "The pass text and its list": one table, which proofs/Proved.antt proves of the
+-- definitions. Definitions only.
 use mathlib.Core.Path.{_≡_}
-use mathlib.Core.Bool.{Bool}
+use mathlib.Core.Bool.{Bool, true, false}
 use mathlib.Core.List.{List, [], _∷_}
 use lib.ListN.{length}
 use lib.Ieee.{Float, nan, binary32, binary64, ofBits}
@@ -12,6 +13,10 @@ use Rattle.snr.specs.MomentEstimate.{snrOf}
 use Rattle.correlation.specs.Correlation.{prepared}
 use Rattle.esprit.specs.Esprit.{estimate}
 use Rattle.dispersion.specs.Dispersion.{dispersionFree}
+use Rattle.channel_model.specs.declared.Settings.{Settings}
+use Rattle.channel_model.specs.Opening.{fadeSteps, opened}
+use Rattle.worked_values.specs.Openings.{RateOf, RestGood, accepted, refused}
+use Rattle.worked_values.specs.PassList.{passSettings, passOpened, passAssigned, Windows, block1, block2, block3, line1, line2, line3, Shows}
 
 -- f32 numbers by their patterns
 abbrev zero32 : Float
@@ -55,6 +60,15 @@ abbrev minusTwenty64 : Float
 minusTwenty64 = ofBits binary64 0xc034_0000_0000_0000
 
 pub record WorkedValues : Type 0 where
+  -- factor 1, rate 999 refused 1; 1,000 and 100,000 open; 100,001 refused 1: whatever the rest of the settings is, or any good one to open
+  pub rate-999 : (s : Settings) → RateOf 999 s → opened s ≡ refused 1
+  pub rate-1000 : (s : Settings) → RateOf 1000 s → RestGood s → opened s ≡ accepted s
+  pub rate-100000 : (s : Settings) → RateOf 100000 s → RestGood s → opened s ≡ accepted s
+  pub rate-100001 : (s : Settings) → RateOf 100001 s → opened s ≡ refused 1
+  -- fade 5 s at 40,000 Hz gives 5 steps; at 1,000 Hz, 0; 86,400 s at 100,000 Hz, 216,000
+  pub fade-at-40000 : (s : Settings) → RateOf 40000 s → s .fade ≡ 5 → fadeSteps s ≡ 5
+  pub fade-at-1000 : (s : Settings) → RateOf 1000 s → s .fade ≡ 5 → fadeSteps s ≡ 0
+  pub fade-at-100000 : (s : Settings) → RateOf 100000 s → s .fade ≡ 86400 → fadeSteps s ≡ 216000
   -- root of 2 is 3ff6a09e667f3bcd
   pub root-of-2 : sqrt binary64 (ofBits binary64 0x4000_0000_0000_0000) ≡ ofBits binary64 0x3ff6_a09e_667f_3bcd
   -- atan2(+0, -1) is 400921fb54442d18
@@ -72,3 +86,9 @@ pub record WorkedValues : Type 0 where
   pub estimate-nine : (samples : List Float) (squared : Bool) (rate : Float) → length samples ≡ 18 → estimate (prepared squared samples) rate ≡ zero64
   -- cancel with f1 2, f2 1, offsets 3 and 0 gives 4
   pub cancel-two-one : dispersionFree two64 one64 three64 zero64 ≡ four64
+  -- the pass text's example, whatever stands in the window memory: open and assign are accepted, and the three blocks give the three lines
+  pub pass-opens : passOpened ≡ accepted passSettings
+  pub pass-assigns : passAssigned .refusal ≡ 0
+  pub pass-block-1 : (w1 : Windows) → Shows (block1 w1 .answer) line1
+  pub pass-block-2 : (w1 w2 : Windows) → Shows (block2 w1 w2 .answer) line2
+  pub pass-block-3 : (w1 w2 w3 : Windows) → Shows (block3 w1 w2 w3 .answer) line3

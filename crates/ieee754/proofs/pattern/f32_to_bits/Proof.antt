@@ -4,7 +4,6 @@ use Prim.Native.Nat.{ℕ}
 use lib.Dec.{T}
 use lib.Ieee.{nan, binary32, toBits}
 use lib.Ieee.Compare.{differs-from-itself}
-use borrow.Author.Needs.{needs}
 use Rattle.ieee754.proofs.Fields.{equals-itself, bits-of-nan}
 use Rattle.ieee754.proofs.pattern.f32_to_bits.Statement.{statement}
 use Rattle.ieee754.proofs.pattern.f32_to_bits.Tie as tie
@@ -16,7 +15,7 @@ float-to-bits-result : tie.Need-float-to-bits-result
 float-to-bits-result c = equals-itself (c .before .args .x) (c .if1 .left)
 
 returns-2 : tie.Need-returns-2
-returns-2 c = search needs
+returns-2 c = refl
 
 pub f32-to-bits-spec : {M : Type 1} → statement M
 f32-to-bits-spec = tie.close (tie.spec returns float-to-bits-result returns-2)

@@ -20,14 +20,14 @@ unfolding remEuclid
 returns c =
     let s = c .before .before in
     let r = rem binary64 (s .args .x) (s .args .y) in
-    ap (λ (z : Float). add binary64 r z) (c .abs .ensures) ∙ sym (ap (λ (b : Bool). cond b (add binary64 r (absolute (s .args .y))) r) (rw zero-is at (c .before .if1 .taken)))
+    ap (λ (z : Float). add binary64 r z) (c .abs .ensures) ∙ sym (ap (λ (b : Bool). cond b (add binary64 r (absolute (s .args .y))) r) (rw (zero-is binary64) at (c .before .if1 .taken)))
 
 returns-2 : tie.Need-returns-2
 unfolding remEuclid
 returns-2 c =
     let s = c .before in
     let r = rem binary64 (s .args .x) (s .args .y) in
-    sym (ap (λ (b : Bool). cond b (add binary64 r (absolute (s .args .y))) r) (rw zero-is at (c .if1 .left)))
+    sym (ap (λ (b : Bool). cond b (add binary64 r (absolute (s .args .y))) r) (rw (zero-is binary64) at (c .if1 .left)))
 
 pub rem-euclid-spec : {M : Type 1} → statement M
 rem-euclid-spec = tie.close (tie.spec abs-requires returns returns-2)

@@ -13,13 +13,13 @@ held : (c : tie.Start) → T (fits binary64 (c .args .x))
 held c = subst T (sym (c .good .0 .1)) tt
 
 returns : tie.Need-returns
-returns c = abs-negative (c .before .args .x) (rw zero-is at (c .if1 .taken))
+returns c = abs-negative (c .before .args .x) (rw (zero-is binary64) at (c .if1 .taken))
 
 returns-2 : tie.Need-returns-2
-returns-2 c = zero-is ∙ abs-zero (c .before .before .args .x) (held (c .before .before)) (rw zero-is at (c .if2 .taken))
+returns-2 c = zero-is binary64 ∙ abs-zero binary64 (c .before .before .args .x) (held (c .before .before)) (rw (zero-is binary64) at (c .if2 .taken))
 
 returns-3 : tie.Need-returns-3
-returns-3 c = abs-positive (c .before .before .args .x) (rw zero-is at (c .before .if1 .left)) (rw zero-is at (c .if2 .left))
+returns-3 c = abs-positive (c .before .before .args .x) (rw (zero-is binary64) at (c .before .if1 .left)) (rw (zero-is binary64) at (c .if2 .left))
 
 pub abs-spec : {M : Type 1} → statement M
 abs-spec = tie.close (tie.spec returns returns-2 returns-3)

@@ -1,61 +1,70 @@
 -- `ieee754::square_root::nearest_root` meets its contract. Assumes nothing.
+use Prim.Native.Nat.{ℕ, _+_, _*_, _^_, _≤_, _<_}
+use native.Mathlib.Omega.{arith}
 use borrow.Author.Needs.{needs}
+use Rattle.ieee754.proofs.RootDigits.{one-fits, two-fit, counted}
 use Rattle.ieee754.proofs.square_root.nearest_root.Statement.{statement}
 use Rattle.ieee754.proofs.square_root.nearest_root.Tie as tie
 
-guess-requires : tie.Need-guess-requires
-guess-requires c κs = search needs
+excess-requires : tie.Need-excess-requires
+excess-requires c κs = search needs
 
-is-nearest-requires : tie.Need-is-nearest-requires
-is-nearest-requires c κs = search needs
+mul-if2 : tie.Need-mul-if2
+mul-if2 c = search needs
 
-returns : tie.Need-returns
-returns c = c .before .is-nearest .ensures (c .if1 .taken)
+add-if2 : tie.Need-add-if2
+add-if2 c = search needs
 
-add-is-nearest : tie.Need-add-is-nearest
-add-is-nearest c = search needs
-
-is-nearest-requires-2 : tie.Need-is-nearest-requires-2
-is-nearest-requires-2 c κs = search needs
+cast-result : tie.Need-cast-result
+cast-result c = search needs
 
 add-result : tie.Need-add-result
-add-result c = search needs
+add-result c = record { fits = search one-fits }
 
-returns-2 : tie.Need-returns-2
-returns-2 c = c .before .is-nearest2 .ensures (c .if2 .taken)
+mul-result : tie.Need-mul-result
+mul-result c = search needs
 
-sub-is-nearest : tie.Need-sub-is-nearest
-sub-is-nearest c = search needs
+add-result-2 : tie.Need-add-result-2
+add-result-2 c = search needs
 
-is-nearest-requires-3 : tie.Need-is-nearest-requires-3
-is-nearest-requires-3 c κs = search needs
+cast-result-2 : tie.Need-cast-result-2
+cast-result-2 c = search needs
 
-sub-result : tie.Need-sub-result
-sub-result c = search needs
+add-result-3 : tie.Need-add-result-3
+add-result-3 c = record { fits = search two-fit }
 
-returns-3 : tie.Need-returns-3
-returns-3 c = c .before .is-nearest3 .ensures (c .if4 .taken)
+returns : tie.Need-returns
+returns c =
+    let s = c .before .before .before in
+    let q = s .args .q in
+    let x = c .before .excess .result in
+    counted (s .args .m * 2 ^ 52) q x (some (s .args .m) (s .pre .0)) (c .before .excess .ensures (small q x (c .before .before .if1 .taken) (c .if2 .taken))) (c .if2 .taken)
+  where
+    some : (m : ℕ) → 2 ^ 52 ≤ m → 0 < m * 2 ^ 52
+    some m h = omega arith
+
+    small : (q x : ℕ) → q < 2 ^ 53 → x ≤ 5 * q + 6 → x < 2 ^ 62
+    small q x h l = omega arith
 
 digit-by-digit-requires : tie.Need-digit-by-digit-requires
 digit-by-digit-requires c κs = search needs
 
-returns-4 : tie.Need-returns-4
-returns-4 c = search needs
+returns-2 : tie.Need-returns-2
+returns-2 c = search needs
 
 pub nearest-root-spec : {M : Type 1} → statement M
 nearest-root-spec =
     tie.close
     (tie.spec
-    guess-requires
-    is-nearest-requires
-    returns
-    add-is-nearest
-    is-nearest-requires-2
+    excess-requires
+    mul-if2
+    add-if2
+    cast-result
     add-result
-    returns-2
-    sub-is-nearest
-    is-nearest-requires-3
-    sub-result
-    returns-3
+    mul-result
+    add-result-2
+    cast-result-2
+    add-result-3
+    returns
     digit-by-digit-requires
-    returns-4)
+    returns-2)

@@ -1,0 +1,46 @@
+-- Whether a tracker fades, and a bank from its three trackers over the samples. Assumes nothing.
+use Prim.Native.Nat.{ℕ, _*_}
+use mathlib.Core.Path.{_≡_, refl, sym, ap, _∙_}
+use mathlib.Core.Bool.{Bool, true, false, _&&_}
+use mathlib.Core.List.{List}
+use lib.Dec.{eqb}
+use lib.Ieee.{Float}
+use Rattle.sequences.specs.Stretches.{within}
+use Rattle.tracker.specs.declared.state.Tracked.{Tracked}
+use Rattle.tracking.specs.Following.{Held, overLists}
+use Rattle.bank.specs.declared.state.EkfTrackingBank.{EkfTrackingBank}
+use Rattle.bank.specs.Pruning.{withTrackers}
+use Rattle.bank.specs.Following.{Lists, onStretch, fades, bankFollowed}
+
+module _ (b : EkfTrackingBank) (i : ℕ) where
+  pub in-fade : b .«in_fade» ≡ true → eqb (b .«active_idx») i ≡ fades b i
+  unfolding fades
+  in-fade h = ap (λ (z : Bool). z && eqb (b .«active_idx») i) (sym h)
+
+  pub no-fade : b .«in_fade» ≡ false → false ≡ fades b i
+  unfolding fades
+  no-fade h = ap (λ (z : Bool). z && eqb (b .«active_idx») i) (sym h)
+
+module _ (dt : Float) (l : Lists) where
+  abbrev over : ℕ → Bool → Held → Held
+  over i fade h = within (2048 * i) 2048 (overLists (l .two) dt fade (l .first) (l .second)) h
+
+  on-stretch : (i : ℕ) (h : Held) {fade fade' : Bool} {r : Held} → fade ≡ fade' → r ≡ over i fade h → r ≡ onStretch i dt fade' l h
+  unfolding onStretch
+  on-stretch i h e k = k ∙ ap (λ (f : Bool). over i f h) e
+
+  pub followed-is : (b : EkfTrackingBank) (w : List Float) {f0 f1 f2 : Bool} {t0 t1 t2 : Tracked} {w0 w1 w2 : List Float}
+      → f0 ≡ fades b 0 → f1 ≡ fades b 1 → f2 ≡ fades b 2
+      → (t0, w0) ≡ over 1 f0 (b .t0, w) → (t1, w1) ≡ over 2 f1 (b .t1, w0) → (t2, w2) ≡ over 3 f2 (b .t2, w1)
+      → (withTrackers b t0 t1 t2 (b .«terminated_in_fade»), w2) ≡ bankFollowed dt l (b, w)
+  unfolding bankFollowed
+  followed-is b w {t0 = t0} {t1 = t1} {t2 = t2} {w0 = w0} {w1 = w1} {w2 = w2} e0 e1 e2 k0 k1 k2 =
+      let s1 = onStretch 1 dt (fades b 0) l (b .t0, w) in
+      let s2 = onStretch 2 dt (fades b 1) l (b .t1, s1 .1) in
+      let g0 : (t0, w0) ≡ s1 = on-stretch 1 (b .t0, w) e0 k0 in
+      let g1 : (t1, w1) ≡ s2 = on-stretch 2 (b .t1, w0) e1 k1 ∙ ap (λ (h : Held). onStretch 2 dt (fades b 1) l (b .t1, h .1)) g0 in
+      let g2 : (t2, w2) ≡ onStretch 3 dt (fades b 2) l (b .t2, s2 .1) =
+      on-stretch 3 (b .t2, w1) e2 k2 ∙ ap (λ (h : Held). onStretch 3 dt (fades b 2) l (b .t2, h .1)) g1 in
+      ap (λ (h : Held). (withTrackers b (h .0) t1 t2 (b .«terminated_in_fade»), w2)) g0
+      ∙ ap (λ (h : Held). (withTrackers b (s1 .0) (h .0) t2 (b .«terminated_in_fade»), w2)) g1
+      ∙ ap (λ (h : Held). (withTrackers b (s1 .0) (s2 .0) (h .0) (b .«terminated_in_fade»), h .1)) g2

@@ -1,0 +1,41 @@
+// The three trackers over the samples of a block, each on its own stretch of the window memory.
+ghost use mathlib.Core.Path.{_≡_};
+ghost use lib.ListN.{length};
+ghost use Rattle.bank.specs.Following.{fades, bankFollowed};
+use crate::state::EkfTrackingBank;
+use tracking::stretch::follow_on;
+
+// Tracker i is the one in use, in a fade.
+fn is_fading(b: EkfTrackingBank, i: u64) -> bool
+    ensures { λ r. ⌜ r ≡ fades b i ⌝ }
+{
+    if b.in_fade {
+        return b.active_idx == i;
+    }
+    false
+}
+
+// Tracker 0, 1 and 2, each over all samples of one list or of two.
+pub fn follow(
+    b: EkfTrackingBank,
+    two: bool,
+    first: &[f32],
+    second: &[f32],
+    w: &mut [f64],
+    dt: f64,
+) -> EkfTrackingBank
+    requires { ⌜ length (now w) ≡ 8192 ⌝ }
+    ensures { λ r. ⌜ (r, now (w .exit)) ≡ bankFollowed dt record { two = two; first = now (first .entry); second = now (second .entry) } (b, now (w .entry)) ⌝ }
+{
+    let fades0 = is_fading(b, 0);
+    let fades1 = is_fading(b, 1);
+    let fades2 = is_fading(b, 2);
+    let h0 = follow_on(b.t0, two, first, second, w, 1, dt, fades0);
+    let h1 = follow_on(b.t1, two, first, second, w, 2, dt, fades1);
+    let h2 = follow_on(b.t2, two, first, second, w, 3, dt, fades2);
+    let mut r = b;
+    r.t0 = h0;
+    r.t1 = h1;
+    r.t2 = h2;
+    r
+}

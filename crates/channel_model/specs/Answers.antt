@@ -1,0 +1,53 @@
+-- "A block's answer" (01, module 9): the channel's state after the call. Definitions only.
+use Prim.Native.Nat.{ℕ}
+use mathlib.Core.Bool.{Bool, true, false, cond, _&&_}
+use lib.Ieee.{Float}
+use Rattle.covariance.specs.Float64 as float
+use Rattle.bank.specs.declared.state.EkfTrackingBank.{EkfTrackingBank}
+use Rattle.bank.specs.Choice.{numbered}
+use Rattle.bank.specs.Fade.{inUse}
+use Rattle.channel_model.specs.declared.Channel.{Channel}
+use Rattle.channel_model.specs.declared.Answer.{Answer}
+
+-- the metric of a bank's tracker in use; 0 where none is (no calls lead there)
+unfoldable pub bankMetric : EkfTrackingBank → Float
+bankMetric b = cond (inUse b) (numbered (b .«active_idx») b .ekf .«lock_metric») float.zero
+
+-- "0 when not locked, else that of the tracker in use"
+unfoldable pub metricOf : Channel → Float
+metricOf c = cond (c .«is_locked») (cond (c .setup .bank) (bankMetric (c .bank)) (c .pll .ekf .«lock_metric»)) float.zero
+
+-- "without a bank the tracker is 3 and in fade, fade count and ended are 0"
+unfoldable pub answerOf : Channel → Answer
+answerOf c =
+    let k = c .setup .bank in
+    record {
+      refusal = 0;
+      locked = c .«is_locked»;
+      tracker = cond k (c .bank .«active_idx») 3;
+      «in_fade» = k && c .bank .«in_fade»;
+      «fade_count» = cond k (c .bank .«fade_counter») 0;
+      ended = k && c .bank .«terminated_in_fade»;
+      phase = c .reading .phase;
+      frequency = c .reading .frequency;
+      snr = c .reading .snr;
+      electrons = c .reading .electrons;
+      metric = metricOf c;
+    }
+
+-- "other fields 0, tracker 3"
+unfoldable pub refusedAnswer : ℕ → Answer
+refusedAnswer number =
+    record {
+      refusal = number;
+      locked = false;
+      tracker = 3;
+      «in_fade» = false;
+      «fade_count» = 0;
+      ended = false;
+      phase = float.zero;
+      frequency = float.zero;
+      snr = float.zero;
+      electrons = float.zero;
+      metric = float.zero;
+    }

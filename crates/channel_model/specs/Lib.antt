@@ -1,0 +1,12 @@
+-- Module 9: the channel. What open, assign, block, release and figures mean.
+pub mod Values
+pub mod Opening
+pub mod Assigning
+pub mod Releasing
+pub mod Figures
+pub mod Readout
+pub mod Answers
+pub mod Refusals
+pub mod Starting
+pub mod Tracking
+pub mod Blocks

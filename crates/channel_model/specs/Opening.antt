@@ -1,0 +1,148 @@
+-- Open (01, module 9; refusals 1 to 4). Definitions only.
+use Prim.Native.Nat.{ℕ, zero, suc, _*_}
+use mathlib.Core.Bool.{Bool, false, cond, not, _&&_, _||_}
+use lib.Dec.{leb, ltb}
+use lib.IntN.{pos}
+use lib.Ieee.{Float, binary32, binary64, ofBits, ofInt, le, toUnsigned}
+use Rattle.covariance.specs.Float64 as float
+use Rattle.covariance.specs.Float64.{times, over, one}
+use Rattle.measurement.specs.declared.modulation.Modulation.{Modulation}
+use Rattle.measurement.specs.declared.modulation.Modulation.the-variants.{Carrier, Bpsk, Qpsk}
+use Rattle.tracker.specs.declared.state.CarrierPllEkf.{CarrierPllEkf}
+use Rattle.tracker.specs.declared.state.Tracked.{Tracked}
+use Rattle.tracker.specs.State as tracker
+use Rattle.bank.specs.declared.state.EkfTrackingBank.{EkfTrackingBank}
+use Rattle.channel_model.specs.declared.Settings.{Settings}
+use Rattle.channel_model.specs.declared.Setup.{Setup}
+use Rattle.channel_model.specs.declared.Status.the-variants.{Idle, Assigned}
+use Rattle.channel_model.specs.declared.Carriers.{Carriers}
+use Rattle.channel_model.specs.declared.Channel.{Channel}
+use Rattle.channel_model.specs.declared.Returned.{Returned}
+
+-- ---- refusals
+
+-- 1: "factor outside 1 to 4,096, or sample rate below 1,000 × factor or above 100,000 × factor"
+unfoldable pub badRate : ℕ → ℕ → Bool
+badRate rate factor = not (leb 1 factor && leb factor 4096) || not (leb (1000 * factor) rate && leb rate (100000 * factor))
+
+-- 4: "ratio not within 0.25 to 4", so a NaN is refused
+unfoldable pub badRatio : Float → Bool
+badRatio r = not (le (ofBits binary64 0x3fd0_0000_0000_0000) r && le r (ofBits binary64 0x4010_0000_0000_0000))
+
+-- in the order of their numbers; 0 where none holds
+unfoldable pub openRefusal : Settings → ℕ
+openRefusal s =
+    cond (badRate (s .rate) (s .factor)) 1
+    (cond (ltb 2 (s .modulation)) 2
+    (cond (ltb 86400 (s .fade)) 3
+    (cond (badRatio (s .ratio)) 4 0)))
+
+-- ---- the channel that is opened
+
+-- 0 carrier, 1 BPSK, 2 QPSK
+unfoldable pub modulationOf : ℕ → Modulation
+modulationOf zero = Carrier
+modulationOf (suc zero) = Bpsk
+modulationOf (suc (suc n)) = Qpsk
+
+-- a whole number as f64
+unfoldable pub whole : ℕ → Float
+whole n = ofInt binary64 (pos n)
+
+-- the rate of the decimated samples: rate / factor
+unfoldable pub decimatedRate : ℕ → ℕ → Float
+decimatedRate rate factor = over (whole rate) (whole factor)
+
+-- (fade × decimated rate) / 40,000, cut to a whole number
+unfoldable pub fadeSteps : Settings → ℕ
+fadeSteps s = toUnsigned 64 (over (times (whole (s .fade)) (decimatedRate (s .rate) (s .factor))) (ofBits binary64 0x40e3_8800_0000_0000))
+
+-- a tracker with the switches and the frequency ratio of the settings
+unfoldable pub withSwitches : CarrierPllEkf → Settings → CarrierPllEkf
+withSwitches t s =
+    record {
+      x = t .x;
+      «q_phase» = t .«q_phase»;
+      «q_freq» = t .«q_freq»;
+      «q_chirp» = t .«q_chirp»;
+      «r_meas» = t .«r_meas»;
+      ts = t .ts;
+      «lock_metric» = t .«lock_metric»;
+      «is_locked» = t .«is_locked»;
+      modulation = t .modulation;
+      «envelope_ema» = t .«envelope_ema»;
+      «adaptive_ekf» = s .adaptive;
+      «dual_lock» = s .«dual_lock»;
+      «pr_pushed» = t .«pr_pushed»;
+      «pr_sum_abs_i» = t .«pr_sum_abs_i»;
+      «pr_sum_q_sq» = t .«pr_sum_q_sq»;
+      «convergence_guard» = t .«convergence_guard»;
+      «frequency_ratio» = s .ratio;
+    }
+
+-- a tracker as opening makes each of the four
+unfoldable pub newTracker : Settings → Tracked
+newTracker s =
+    let t = tracker.opened (decimatedRate (s .rate) (s .factor)) (modulationOf (s .modulation)) in
+    record { ekf = withSwitches (t .ekf) s; p = t .p }
+
+unfoldable pub newSetup : Settings → Setup
+newSetup s = record { rate = s .rate; factor = s .factor; bank = s .bank; two = s .two }
+
+-- a bank at rest: no tracker in use, no fade, not ended
+unfoldable pub restingBank : ℕ → Tracked → Tracked → Tracked → EkfTrackingBank
+restingBank steps t u v =
+    record {
+      t0 = t;
+      t1 = u;
+      t2 = v;
+      «active_idx» = 3;
+      «in_fade» = false;
+      «fade_counter» = 0;
+      «max_fade_steps» = steps;
+      «terminated_in_fade» = false;
+    }
+
+-- An idle channel. Opening makes it with no carriers and electron content 0, release with those that it found.
+unfoldable pub idleChannel : Setup → Carriers → Float → Tracked → EkfTrackingBank → Channel
+idleChannel k a electrons h b =
+    record {
+      setup = k;
+      status = Idle;
+      carriers = a;
+      pll = h;
+      bank = b;
+      «ever_locked» = false;
+      «last_snr» = ofBits binary32 0;
+      «is_locked» = false;
+      reading = record { phase = float.zero; frequency = float.zero; snr = float.zero; electrons = electrons };
+    }
+
+unfoldable pub noCarriers : Carriers
+noCarriers = record { nominal = float.zero; target = float.zero; target2 = float.zero; frequency2 = float.zero }
+
+unfoldable pub newChannel : Settings → Channel
+newChannel s = let h = newTracker s in idleChannel (newSetup s) noCarriers float.zero h (restingBank (fadeSteps s) h h h)
+
+-- "an idle carrier channel: 1,000 Hz, factor 1, switches off, fade 0, ratio 1"
+unfoldable pub refusedSettings : Settings
+refusedSettings =
+    record {
+      rate = 1000;
+      factor = 1;
+      modulation = 0;
+      adaptive = false;
+      «dual_lock» = false;
+      bank = false;
+      two = false;
+      fade = 0;
+      ratio = one;
+    }
+
+-- by the refusal number
+unfoldable pub openedBy : ℕ → Settings → Returned
+openedBy zero s = record { refusal = 0; channel = newChannel s }
+openedBy (suc k) s = record { refusal = suc k; channel = newChannel refusedSettings }
+
+unfoldable pub opened : Settings → Returned
+opened s = openedBy (openRefusal s) s

@@ -1,0 +1,65 @@
+-- The start of the trackers in a flag 1 block (01, module 9; the source's bootstrap). Definitions only.
+use Prim.Native.Nat.{ℕ, _*_}
+use mathlib.Core.Bool.{Bool, true, false, not, _&&_, _||_}
+use mathlib.Core.List.{List}
+use lib.ListN.{take}
+use lib.Ieee.{Float, binary32, binary64, ofBits, lt, toUnsigned}
+use Rattle.ieee754.specs.Integral.{roundedAway}
+use Rattle.covariance.specs.Float64 as float
+use Rattle.covariance.specs.Float64.{times}
+use Rattle.measurement.specs.declared.modulation.Modulation.{Modulation}
+use Rattle.measurement.specs.declared.modulation.Modulation.the-variants.{Carrier, Bpsk, Qpsk}
+use Rattle.tracker.specs.declared.state.Tracked.{Tracked}
+use Rattle.tracker.specs.State.{resetTo}
+use Rattle.bank.specs.Pruning.{withTrackers}
+use Rattle.correlation.specs.Correlation.{prepared}
+use Rattle.esprit.specs.Esprit.{estimate}
+use Rattle.channel_model.specs.declared.Setup.{Setup}
+use Rattle.channel_model.specs.declared.Channel.{Channel}
+use Rattle.channel_model.specs.Values.{withAll}
+use Rattle.channel_model.specs.Opening.{decimatedRate}
+
+-- `pll_tracker` is not locked, and the channel never was or the last SNR was below 0
+unfoldable pub starts : Channel → Bool
+starts c = not (c .pll .ekf .«is_locked») && (not (c .«ever_locked») || lt (c .«last_snr») (ofBits binary32 0))
+
+-- how many samples the estimate looks at: a hundredth of a second, rounded
+unfoldable pub chunk : Setup → ℕ
+chunk k = toUnsigned 64 (roundedAway binary64 (times (ofBits binary64 0x3f84_7ae1_47ae_147b) (decimatedRate (k .rate) (k .factor))))
+
+-- BPSK has a carrier in the samples' squares
+unfoldable pub squares : Modulation → Bool
+squares Carrier = false
+squares Bpsk = true
+squares Qpsk = false
+
+-- the frequency at which the trackers start: the estimate of the list's first samples, as they came
+unfoldable pub startFrequency : Modulation → Setup → List Float → Float
+startFrequency m k l = estimate (prepared (squares m) (take (2 * chunk k) l)) (decimatedRate (k .rate) (k .factor))
+
+-- `reset(0.0, hz, 0.0)`
+unfoldable pub restarted : Float → Tracked → Tracked
+restarted hz h = resetTo (h .ekf) float.zero hz float.zero
+
+unfoldable pub restartedIf : Bool → Float → Tracked → Tracked
+restartedIf true hz h = restarted hz h
+restartedIf false hz h = h
+
+-- a tracker of the bank starts where it is not locked
+unfoldable pub startedUnlocked : Float → Tracked → Tracked
+startedUnlocked hz h = restartedIf (not (h .ekf .«is_locked»)) hz h
+
+-- `pll_tracker` is reset, and those of the bank that are not locked
+unfoldable pub startedAt : Float → Channel → Channel
+startedAt hz c =
+    withAll c (restarted hz (c .pll))
+    (withTrackers (c .bank) (startedUnlocked hz (c .bank .t0)) (startedUnlocked hz (c .bank .t1)) (startedUnlocked hz (c .bank .t2))
+    (c .bank .«terminated_in_fade»))
+
+-- by whether the channel starts
+unfoldable pub startedBy : Bool → Channel → List Float → Channel
+startedBy true c l = startedAt (startFrequency (c .pll .ekf .modulation) (c .setup) l) c
+startedBy false c l = c
+
+unfoldable pub started : Channel → List Float → Channel
+started c l = startedBy (starts c) c l

@@ -1,0 +1,2 @@
+-- The C interface.
+pub mod Calls

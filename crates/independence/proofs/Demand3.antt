@@ -1,0 +1,167 @@
+-- Demand 3 holds. Assumes nothing.
+use Prim.Native.Nat.{ℕ, zero, suc, _*_}
+use mathlib.Core.Path.{_≡_, refl, sym, _∙_, ap, subst}
+use mathlib.Core.Logic.{inl, inr, _≢_}
+use mathlib.Core.Bool.{true, false}
+use mathlib.Core.List.{List, [], _∷_, _++_}
+use mathlib.Core.Option.{Option, none, some}
+use borrow.Author.Tests.{eq-eqb}
+use lib.Ieee.{Float, nan, inf, fin, eq, isNan, up, down}
+use Rattle.runs.specs.Runs.{after}
+use Rattle.runs.proofs.Lockstep.{after-append, invariant, places-map, lockstep}
+use Rattle.tracker.specs.declared.state.CarrierPllEkf.{CarrierPllEkf}
+use Rattle.tracker.specs.declared.state.Tracked.{Tracked}
+use Rattle.tracker.specs.State as tracker
+use Rattle.channel_model.specs.declared.Settings.{Settings}
+use Rattle.channel_model.specs.declared.Channel.{Channel}
+use Rattle.channel_model.specs.declared.Answer.{Answer}
+use Rattle.channel_model.specs.Values.{unlocked}
+use Rattle.channel_model.specs.Opening as opening
+use Rattle.channel_model.specs.Opening.{openRefusal, withSwitches, newTracker, newSetup, restingBank, idleChannel, noCarriers, newChannel, refusedSettings, openedBy}
+use Rattle.channel_model.specs.Releasing.{released}
+use Rattle.independence.specs.Calls.{Call, release, Held, opened, channelAfter, next, answer, Equal, HandsBack}
+use Rattle.independence.specs.Demand3.{OneFrequency, EndsReleased, afterOwn, Independent, Demand3, SameFloat, SamePlace, neither, both, Demand3AsFloats}
+use Rattle.independence.proofs.Constants.{Constants, constants, Single, single-kept, call-constants}
+use Rattle.independence.proofs.Waiting.{hidden, blind, seenBy, seen, Waiting, release-waiting}
+use Rattle.independence.proofs.Steps.{Related, apart, call-step}
+
+-- ---- opened and released channels
+
+abbrev first : Settings → Channel
+first s = opening.opened s .channel
+
+refused-single : (s : Settings) (k : ℕ) → openedBy k s .refusal ≢ 0 → Single (openedBy k s .channel)
+unfolding openedBy newChannel newSetup idleChannel refusedSettings
+refused-single s zero x = absurd (x refl)
+refused-single s (suc k) x = record { one = refl; none = refl }
+
+off-single : (s : Settings) (k : ℕ) → s .two ≡ false → Single (openedBy k s .channel)
+unfolding openedBy newChannel newSetup idleChannel refusedSettings
+off-single s zero e = record { one = e; none = refl }
+off-single s (suc k) e = record { one = refl; none = refl }
+
+open-single : (s : Settings) → OneFrequency s → Single (first s)
+unfolding OneFrequency opening.opened
+open-single s (inl x) = refused-single s (openRefusal s) x
+open-single s (inr e) = off-single s (openRefusal s) e
+
+new-waiting : (s : Settings) → Waiting (newChannel s)
+unfolding newChannel idleChannel restingBank newTracker withSwitches tracker.opened
+new-waiting s = record { ever = refl; pll = refl; t0 = refl; t1 = refl; t2 = refl }
+
+-- a refused open makes a new channel too
+open-new : (P : Channel → Type 0) → ((s : Settings) → P (newChannel s)) → (s : Settings) → P (first s)
+unfolding opening.opened openedBy
+open-new P f s = go (openRefusal s)
+  where
+    go : (k : ℕ) → P (openedBy k s .channel)
+    go zero = f s
+    go (suc k) = f refusedSettings
+
+-- the channel with the given constants, and all else as at opening
+stem : Constants → Channel
+stem k =
+    let h : CarrierPllEkf → Tracked = λ t. record { ekf = t; p = [] } in
+    idleChannel (k .setup) noCarriers (k .electrons) (h (k .pll)) (restingBank (k .steps) (h (k .t0)) (h (k .t1)) (h (k .t2)))
+
+new-stem : (s : Settings) → blind (newChannel s) ≡ stem (constants (newChannel s))
+unfolding newChannel idleChannel restingBank blind hidden stem
+new-stem s = refl
+
+release-stem : (c : Channel) → blind (channelAfter c release) ≡ stem (constants c)
+unfolding channelAfter released idleChannel restingBank unlocked blind hidden stem
+release-stem c = refl
+
+new-seen : (s : Settings) → seen (newChannel s) ≡ noCarriers
+unfolding newChannel idleChannel seen seenBy
+new-seen s = refl
+
+release-seen : (c : Channel) → seen (channelAfter c release) ≡ noCarriers
+unfolding channelAfter released idleChannel seen seenBy
+release-seen c = refl
+
+-- ---- a channel's own list of calls
+
+-- what all calls keep
+Keeps : Settings → Held → Type 0
+Keeps s h = constants (h .channel) ≡ constants (first s)
+
+keeps : (s : Settings) → Single (first s) → (h : Held) (c : Call) → Keeps s h → Keeps s (next h c)
+unfolding Keeps next
+keeps s o h c e = call-constants (h .channel) c (single-kept (h .channel) (first s) e o) ∙ e
+
+-- what a released channel has in common with one just opened
+record Fresh (s : Settings) (h : Held) : Type 0 where
+  blinded : blind (h .channel) ≡ blind (first s)
+  carriers : seen (h .channel) ≡ noCarriers
+  waiting : Waiting (h .channel)
+
+opened-fresh : (s : Settings) → Fresh s (opened s)
+unfolding opened
+opened-fresh s = record { blinded = refl; carriers = open-new (λ c. seen c ≡ noCarriers) new-seen s; waiting = open-new Waiting new-waiting s }
+
+released-fresh : (s : Settings) (h : Held) → Keeps s h → Fresh s (next h release)
+unfolding Keeps next
+released-fresh s h e =
+    record {
+      blinded = release-stem (h .channel) ∙ ap stem e ∙ sym (open-new (λ c. blind c ≡ stem (constants c)) new-stem s);
+      carriers = release-seen (h .channel);
+      waiting = release-waiting (h .channel);
+    }
+
+-- the last call of a list that ends in a release
+last : (s : Settings) (own front : List Call) → own ≡ front ++ (release ∷ []) → afterOwn s own ≡ next (after next (opened s) front) release
+unfolding afterOwn after
+last s own front e = ap (after next (opened s)) e ∙ after-append next (opened s) front (release ∷ [])
+
+own-fresh : (s : Settings) → Single (first s) → (own : List Call) → EndsReleased own → Fresh s (afterOwn s own)
+unfolding afterOwn EndsReleased after Keeps opened
+own-fresh s o own (inl e) = rw e (opened-fresh s)
+own-fresh s o own (inr (front, e)) =
+    subst (Fresh s) (sym (last s own front e)) (released-fresh s _ (invariant next (Keeps s) (keeps s o) (opened s) front refl))
+
+-- ---- the demand
+
+pub demand3 : Demand3
+unfolding Demand3 Independent
+demand3 s f own₁ own₂ x₁ x₂ equal₁ equal₂ e y₁ y₂ =
+    let o = open-single s f in
+    let h₁ = own-fresh s o own₁ x₁ in
+    let h₂ = own-fresh s o own₂ x₂ in
+    lockstep next next answer answer Related Equal HandsBack HandsBack (λ a b. a ≡ b) (λ g h c d r q u v. call-step g h r q u v) _ _
+    (apart (record { blinded = h₁ .blinded ∙ sym (h₂ .blinded); carriers = h₁ .carriers ∙ sym (h₂ .carriers); first = h₁ .waiting; second = h₂ .waiting })) e y₁ y₂
+
+-- ---- the same with document 01's equality of floats
+
+same-float : (x : Float) → SameFloat x x
+unfolding SameFloat eq isNan
+same-float nan = tt
+same-float (inf true) = tt
+same-float (inf false) = tt
+same-float (fin true m e) = rw (eq-eqb (m * up e * down e) (m * up e * down e) refl) tt
+same-float (fin false m e) = rw (eq-eqb (m * up e * down e) (m * up e * down e) refl) tt
+
+same-place : (a b : Option Answer) → a ≡ b → SamePlace a b
+same-place a b e = rw (← e) (go a)
+  where
+    go : (a : Option Answer) → SamePlace a a
+    go none = neither
+    go (some a) =
+        both
+        (record {
+          refusal = refl;
+          locked = refl;
+          tracker = refl;
+          inFade = refl;
+          fadeCount = refl;
+          ended = refl;
+          phase = same-float _;
+          frequency = same-float _;
+          snr = same-float _;
+          electrons = same-float _;
+          metric = same-float _;
+        })
+
+pub demand3-as-floats : Demand3AsFloats
+unfolding Demand3AsFloats Demand3 Independent
+demand3-as-floats s f own₁ own₂ x₁ x₂ equal₁ equal₂ e y₁ y₂ = places-map same-place (demand3 s f own₁ own₂ x₁ x₂ equal₁ equal₂ e y₁ y₂)

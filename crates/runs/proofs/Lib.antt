@@ -1,0 +1,2 @@
+-- Two machines in lockstep, and what a list of calls keeps.
+pub mod Lockstep

@@ -1,0 +1,2 @@
+-- Lists of calls of any machine.
+pub mod Runs

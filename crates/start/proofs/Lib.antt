@@ -1,0 +1,2 @@
+-- The definitions by their cases, as the functions' proofs cite them.
+pub mod StartCases

@@ -1,0 +1,397 @@
+//! The port's own channel, through the C interface of include/gibsumac.h, beside a build of the reference: every call is made to both, and all
+//! that they answer and leave in lent memory is compared bit for bit (any NaN equals any NaN).
+
+use crate::api::shapes::{Answer, Built, PAIRS, Settings, Tracker};
+
+#[repr(C)]
+#[derive(Clone, Copy)]
+pub struct PortSettings {
+    rate: u64,
+    factor: u64,
+    modulation: u64,
+    adaptive: bool,
+    dual_lock: bool,
+    bank: bool,
+    two: bool,
+    fade: u64,
+    ratio: f64,
+}
+
+#[repr(C)]
+#[derive(Clone, Copy)]
+pub struct PortCarriers {
+    nominal: f64,
+    target: f64,
+    target2: f64,
+    frequency2: f64,
+}
+
+#[repr(C)]
+#[derive(Clone, Copy)]
+pub struct PortAnswer {
+    refusal: u64,
+    locked: bool,
+    tracker: u64,
+    in_fade: bool,
+    fade_count: u64,
+    ended: bool,
+    phase: f64,
+    frequency: f64,
+    snr: f64,
+    electrons: f64,
+    metric: f64,
+}
+
+#[repr(C)]
+#[derive(Clone, Copy)]
+pub struct PortTracker {
+    x: [f64; 6],
+    p: [f64; 36],
+    q_phase: f64,
+    q_freq: f64,
+    q_chirp: f64,
+    r_meas: f64,
+    ts: f64,
+    lock_metric: f64,
+    envelope_ema: f64,
+    pr_sum_abs_i: f64,
+    pr_sum_q_sq: f64,
+    frequency_ratio: f64,
+    pr_pushed: usize,
+    convergence_guard: usize,
+    modulation: u64,
+    is_locked: bool,
+    adaptive_ekf: bool,
+    dual_lock: bool,
+}
+
+#[repr(C)]
+#[derive(Clone, Copy)]
+pub struct PortChannel {
+    pll: PortTracker,
+    t0: PortTracker,
+    t1: PortTracker,
+    t2: PortTracker,
+    rate: u64,
+    factor: u64,
+    active_idx: u64,
+    fade_counter: u64,
+    max_fade_steps: u64,
+    nominal: f64,
+    target: f64,
+    target2: f64,
+    frequency2: f64,
+    phase: f64,
+    frequency: f64,
+    snr: f64,
+    electrons: f64,
+    last_snr: f32,
+    bank: bool,
+    two: bool,
+    idle: bool,
+    in_fade: bool,
+    terminated_in_fade: bool,
+    ever_locked: bool,
+    is_locked: bool,
+}
+
+#[repr(C)]
+struct Returned {
+    refusal: u64,
+    channel: PortChannel,
+}
+
+#[repr(C)]
+struct Blocked {
+    answer: PortAnswer,
+    channel: PortChannel,
+}
+
+#[repr(C)]
+struct Figures {
+    values: [f32; 12],
+}
+
+#[link(name = "gibsumac", kind = "static")]
+unsafe extern "C" {
+    fn gibsumac_open(settings: PortSettings) -> Returned;
+    fn gibsumac_assign(channel: PortChannel, carriers: PortCarriers) -> Returned;
+    fn gibsumac_block(
+        channel: PortChannel,
+        flag: u64,
+        first: *mut f32,
+        nfirst: usize,
+        second: *mut f32,
+        nsecond: usize,
+        windows: *mut f64,
+        nwindows: usize,
+    ) -> Blocked;
+    fn gibsumac_release(channel: PortChannel) -> PortChannel;
+    fn gibsumac_figures(channel: PortChannel) -> Figures;
+}
+
+/// Whether two floats are the same bits, or both NaN.
+pub fn same(a: f64, b: f64) -> bool {
+    a.to_bits() == b.to_bits() || (a.is_nan() && b.is_nan())
+}
+
+pub fn same32(a: f32, b: f32) -> bool {
+    a.to_bits() == b.to_bits() || (a.is_nan() && b.is_nan())
+}
+
+fn all_same(a: &[f64], b: &[f64]) -> bool {
+    a.len() == b.len() && a.iter().zip(b).all(|(x, y)| same(*x, *y))
+}
+
+fn all_same32(a: &[f32], b: &[f32]) -> bool {
+    a.len() == b.len() && a.iter().zip(b).all(|(x, y)| same32(*x, *y))
+}
+
+/// How many pairs were pushed since the reset, as the port counts them, from the place of the oldest and their number.
+fn pushed(t: &Tracker) -> usize {
+    if (t.window_fill as usize) < PAIRS { t.window_fill as usize } else { PAIRS + t.window_start as usize }
+}
+
+impl PortTracker {
+    fn of(t: &Tracker) -> PortTracker {
+        PortTracker {
+            x: t.x,
+            p: t.p,
+            q_phase: t.q_phase,
+            q_freq: t.q_freq,
+            q_chirp: t.q_chirp,
+            r_meas: t.r_meas,
+            ts: t.ts,
+            lock_metric: t.metric,
+            envelope_ema: t.envelope,
+            pr_sum_abs_i: t.sum_abs_i,
+            pr_sum_q_sq: t.sum_q_sq,
+            frequency_ratio: t.ratio,
+            pr_pushed: pushed(t),
+            convergence_guard: t.guard as usize,
+            modulation: t.modulation as u64,
+            is_locked: t.locked != 0,
+            adaptive_ekf: t.adaptive != 0,
+            dual_lock: t.dual_lock != 0,
+        }
+    }
+
+    /// What differs from a tracker of the reference.
+    fn unlike(&self, t: &Tracker) -> Option<&'static str> {
+        let o = PortTracker::of(t);
+        let floats = [
+            (self.q_phase, o.q_phase),
+            (self.q_freq, o.q_freq),
+            (self.q_chirp, o.q_chirp),
+            (self.r_meas, o.r_meas),
+            (self.ts, o.ts),
+            (self.lock_metric, o.lock_metric),
+            (self.envelope_ema, o.envelope_ema),
+            (self.pr_sum_abs_i, o.pr_sum_abs_i),
+            (self.pr_sum_q_sq, o.pr_sum_q_sq),
+            (self.frequency_ratio, o.frequency_ratio),
+        ];
+        let wholes = [
+            (self.pr_pushed as u64, o.pr_pushed as u64),
+            (self.convergence_guard as u64, o.convergence_guard as u64),
+            (self.modulation, o.modulation),
+            (self.is_locked as u64, o.is_locked as u64),
+            (self.adaptive_ekf as u64, o.adaptive_ekf as u64),
+            (self.dual_lock as u64, o.dual_lock as u64),
+        ];
+        if !all_same(&self.x, &o.x) {
+            Some("states")
+        } else if !all_same(&self.p, &o.p) {
+            Some("covariance")
+        } else if floats.iter().any(|(a, b)| !same(*a, *b)) {
+            Some("a tracker's number")
+        } else if wholes.iter().any(|(a, b)| a != b) {
+            Some("a tracker's mark or count")
+        } else {
+            None
+        }
+    }
+}
+
+/// The port's channel, and how often it was compared.
+#[derive(Clone)]
+pub struct Port {
+    channel: PortChannel,
+}
+
+impl Port {
+    pub fn open(s: &Settings) -> (u32, Port) {
+        let r = unsafe {
+            gibsumac_open(PortSettings {
+                rate: s.rate,
+                factor: s.factor,
+                modulation: s.modulation,
+                adaptive: s.adaptive != 0,
+                dual_lock: s.dual_lock != 0,
+                bank: s.bank != 0,
+                two: s.two != 0,
+                fade: s.fade,
+                ratio: s.ratio,
+            })
+        };
+        (r.refusal as u32, Port { channel: r.channel })
+    }
+
+    /// A channel from plain numbers; without a bank the three trackers are those of `pll`.
+    pub fn build(b: &Built) -> Port {
+        let t = |i: usize| PortTracker::of(&b.trackers[i]);
+        Port {
+            channel: PortChannel {
+                pll: PortTracker::of(&b.pll),
+                t0: t(0),
+                t1: t(1),
+                t2: t(2),
+                rate: b.rate,
+                factor: b.factor,
+                active_idx: b.tracker as u64,
+                fade_counter: b.fade_count,
+                max_fade_steps: b.fade_steps,
+                nominal: b.nominal,
+                target: b.target,
+                target2: b.target2,
+                frequency2: b.frequency2,
+                phase: b.phase,
+                frequency: b.frequency,
+                snr: b.snr,
+                electrons: b.electrons,
+                last_snr: b.last_snr,
+                bank: b.bank != 0,
+                two: b.two != 0,
+                idle: b.assigned == 0,
+                in_fade: b.in_fade != 0,
+                terminated_in_fade: b.ended != 0,
+                ever_locked: b.ever_locked != 0,
+                is_locked: b.locked != 0,
+            },
+        }
+    }
+
+    pub fn assign(&mut self, nominal: f64, target: f64, target2: f64, frequency2: f64) -> u32 {
+        let r = unsafe { gibsumac_assign(self.channel, PortCarriers { nominal, target, target2, frequency2 }) };
+        self.channel = r.channel;
+        r.refusal as u32
+    }
+
+    pub fn block(&mut self, flag: u64, first: &mut [f32], second: &mut [f32], windows: &mut [f64]) -> Answer {
+        let r = unsafe {
+            gibsumac_block(
+                self.channel,
+                flag,
+                first.as_mut_ptr(),
+                first.len(),
+                second.as_mut_ptr(),
+                second.len(),
+                windows.as_mut_ptr(),
+                windows.len(),
+            )
+        };
+        self.channel = r.channel;
+        let a = r.answer;
+        Answer {
+            refusal: a.refusal as u32,
+            locked: a.locked as u32,
+            tracker: a.tracker as u32,
+            in_fade: a.in_fade as u32,
+            fade_count: a.fade_count,
+            ended: a.ended as u32,
+            unused: 0,
+            phase: a.phase,
+            frequency: a.frequency,
+            snr: a.snr,
+            electrons: a.electrons,
+            metric: a.metric,
+        }
+    }
+
+    pub fn release(&mut self) {
+        self.channel = unsafe { gibsumac_release(self.channel) };
+    }
+
+    pub fn figures(&self) -> [f32; 12] {
+        unsafe { gibsumac_figures(self.channel).values }
+    }
+
+    /// What differs from a channel of the reference. Without a bank its trackers and marks are not compared: the Rust has none.
+    pub fn unlike(&self, b: &Built) -> Option<&'static str> {
+        let c = &self.channel;
+        let o = Port::build(b).channel;
+        let floats = [
+            (c.nominal, o.nominal),
+            (c.target, o.target),
+            (c.target2, o.target2),
+            (c.frequency2, o.frequency2),
+            (c.phase, o.phase),
+            (c.frequency, o.frequency),
+            (c.snr, o.snr),
+            (c.electrons, o.electrons),
+        ];
+        let wholes = [
+            (c.rate, o.rate),
+            (c.factor, o.factor),
+            (c.bank as u64, o.bank as u64),
+            (c.two as u64, o.two as u64),
+            (c.idle as u64, o.idle as u64),
+            (c.ever_locked as u64, o.ever_locked as u64),
+            (c.is_locked as u64, o.is_locked as u64),
+        ];
+        let marks = [
+            (c.active_idx, o.active_idx),
+            (c.fade_counter, o.fade_counter),
+            (c.max_fade_steps, o.max_fade_steps),
+            (c.in_fade as u64, o.in_fade as u64),
+            (c.terminated_in_fade as u64, o.terminated_in_fade as u64),
+        ];
+        let bank = || {
+            if marks.iter().any(|(a, b)| a != b) {
+                return Some("a mark of the bank");
+            }
+            [&c.t0, &c.t1, &c.t2].iter().zip(&b.trackers).find_map(|(t, u)| t.unlike(u))
+        };
+        if floats.iter().any(|(a, b)| !same(*a, *b)) || !same32(c.last_snr, o.last_snr) {
+            Some("a number of the channel")
+        } else if wholes.iter().any(|(a, b)| a != b) {
+            Some("a mark of the channel")
+        } else {
+            c.pll.unlike(&b.pll).or_else(|| if c.bank { bank() } else { None })
+        }
+    }
+}
+
+/// What differs in two answers.
+pub fn unlike_answers(a: &Answer, b: &Answer) -> Option<&'static str> {
+    let wholes = [
+        ("refusal", a.refusal as u64, b.refusal as u64),
+        ("locked", a.locked as u64, b.locked as u64),
+        ("tracker", a.tracker as u64, b.tracker as u64),
+        ("in fade", a.in_fade as u64, b.in_fade as u64),
+        ("fade count", a.fade_count, b.fade_count),
+        ("ended", a.ended as u64, b.ended as u64),
+    ];
+    let floats = [
+        ("phase", a.phase, b.phase),
+        ("frequency", a.frequency, b.frequency),
+        ("SNR", a.snr, b.snr),
+        ("electron content", a.electrons, b.electrons),
+        ("metric", a.metric, b.metric),
+    ];
+    let whole = wholes.iter().find(|(_, x, y)| x != y).map(|w| w.0);
+    whole.or_else(|| floats.iter().find(|(_, x, y)| !same(*x, *y)).map(|f| f.0))
+}
+
+/// What differs in what two blocks left in lent memory.
+pub fn unlike_memory(a: (&[f32], &[f32], &[f64]), b: (&[f32], &[f32], &[f64])) -> Option<&'static str> {
+    if !all_same32(a.0, b.0) {
+        Some("first list")
+    } else if !all_same32(a.1, b.1) {
+        Some("second list")
+    } else if !all_same(a.2, b.2) {
+        Some("window memory")
+    } else {
+        None
+    }
+}
