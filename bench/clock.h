@@ -40,7 +40,7 @@ static void compare(const char *name, void (*port)(void), void (*other)(void), d
         o[i] = (v - u) / items;
     }
     double a = median(p), b = median(o);
-    printf("%-24s %9.2f %9.2f %7.2f\n", name, a, b, a / b);
+    printf("%-32s %9.2f %9.2f %7.2f\n", name, a, b, a / b);
 }
 
 /* Marsaglia's xorshift64, so that every run has the same arguments. */

@@ -29,7 +29,7 @@ int main(void) {
         fx[i] = (float)x[i];
         power[i] = fabs(random_normal(1023 - 20, 1023 + 20));
     }
-    printf("%-24s %9s %9s %7s\n", "elementary function", "port ns", "libm ns", "ratio");
+    printf("%-32s %9s %9s %7s\n", "elementary function", "port ns", "libm ns", "ratio");
     compare("sin below 2 pi", port_sin, other_sin, COUNT);
     compare("cos below 2 pi", port_cos, other_cos, COUNT);
     compare("atan2", port_atan2, other_atan2, COUNT);

@@ -21,7 +21,7 @@ int main(void) {
         samples[2 * i] = (float)(cos(a) + noise);
         samples[2 * i + 1] = (float)(sin(a) - noise);
     }
-    printf("%-24s %9s %9s %7s\n", "over 1,000 samples", "port ns", "Rust ns", "ratio");
+    printf("%-32s %9s %9s %7s\n", "over 1,000 samples", "port ns", "Rust ns", "ratio");
     compare("frequency estimate", port_estimate, rust_estimate, TIMES);
     compare("SNR, and all beside it", port_snr, rust_snr, TIMES);
     return 0;

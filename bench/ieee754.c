@@ -66,7 +66,7 @@ int main(void) {
         samples[2 * i] = (float)random_normal(1023 - 6, 1022);
         samples[2 * i + 1] = (float)random_normal(1023 - 6, 1022);
     }
-    printf("%-24s %9s %9s %7s\n", "float helper", "port ns", "C ns", "ratio");
+    printf("%-32s %9s %9s %7s\n", "float helper", "port ns", "C ns", "ratio");
     compare("sqrt", port_sqrt, other_sqrt, COUNT);
     compare("f64 to f32", port_f64_to_f32, other_f64_to_f32, COUNT);
     compare("rem_euclid by a turn", port_rem_euclid, other_rem_euclid, COUNT);

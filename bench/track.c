@@ -27,7 +27,7 @@ static void rust_two(void) { rust(1); }
 
 int main(void) {
     static const char *names[] = {"carrier", "BPSK", "QPSK"};
-    printf("%-24s %9s %9s %7s\n", "tracker, per sample", "port ns", "Rust ns", "ratio");
+    printf("%-32s %9s %9s %7s\n", "tracker, per sample", "port ns", "Rust ns", "ratio");
     for (modulation = 0; modulation < 3; modulation++) {
         char name[40];
         make_signal(first, PAIRS, modulation, 0.01, 0.3);

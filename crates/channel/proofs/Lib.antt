@@ -1,4 +1,4 @@
 -- Laws that the proofs of the calls cite.
-pub mod Opening
 pub mod Assigning
+pub mod Releasing
 pub mod BlockCases

@@ -46,7 +46,7 @@ pub extern "C" fn gibsumac_survey(raw: &[f32]) -> u64
 pub extern "C" fn gibsumac_open(settings: Settings) -> PlainReturned
     ensures { λ r. ⌜ r ≡ plainReturned (opened settings) ⌝ }
 {
-    let r = channel::open::open(settings);
+    let r = opening::open(settings);
     let c = to_plain_channel(r.channel);
     PlainReturned {
         refusal: r.refusal,

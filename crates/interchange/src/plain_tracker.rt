@@ -1,8 +1,8 @@
 // A tracker in the layout of C.
 ghost use mathlib.Core.Path.{_≡_};
-ghost use Rattle.channel_model.specs.Opening.{modulationOf};
 ghost use Rattle.interchange.specs.Trackers.{modulationNumber, plainTracker, realTracker};
 use measurement::modulation::Modulation;
+use opening::modulation_of;
 use tracker::state::CarrierPllEkf;
 use tracker::state::Tracked;
 
@@ -26,18 +26,6 @@ pub struct PlainTracker {
     pub is_locked: bool,
     pub adaptive_ekf: bool,
     pub dual_lock: bool,
-}
-
-fn modulation_of(n: u64) -> Modulation
-    ensures { λ r. ⌜ r ≡ modulationOf n ⌝ }
-{
-    if n == 0 {
-        return Modulation::Carrier;
-    }
-    if n == 1 {
-        return Modulation::Bpsk;
-    }
-    Modulation::Qpsk
 }
 
 fn modulation_number(m: Modulation) -> u64

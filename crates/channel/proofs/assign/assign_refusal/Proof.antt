@@ -14,17 +14,29 @@ is-idle-requires c κs = search needs
 
 returns : tie.Need-returns
 unfolding assignRefusal
-returns c = rw (sym (c .before .before .good-carriers .ensures) ∙ not-true _ (c .if1 .taken))
+returns c =
+    let good = c .before .before .good-carriers in
+    rw (sym (good .ensures) ∙ not-true (good .result) (c .if1 .taken))
 
 returns-2 : tie.Need-returns-2
 unfolding assignRefusal
 returns-2 c =
-    rw (sym (c .before .before .before .good-carriers .ensures) ∙ not-false _ (c .before .if1 .left), sym (c .before .before .is-idle .ensures) ∙ not-true _ (c .if2 .taken))
+    let good = c .before .before .before .good-carriers in
+    let free = c .before .before .is-idle in
+    rw (
+      sym (good .ensures) ∙ not-false (good .result) (c .before .if1 .left),
+      sym (free .ensures) ∙ not-true (free .result) (c .if2 .taken),
+    )
 
 returns-3 : tie.Need-returns-3
 unfolding assignRefusal
 returns-3 c =
-    rw (sym (c .before .before .before .good-carriers .ensures) ∙ not-false _ (c .before .if1 .left), sym (c .before .before .is-idle .ensures) ∙ not-false _ (c .if2 .left))
+    let good = c .before .before .before .good-carriers in
+    let free = c .before .before .is-idle in
+    rw (
+      sym (good .ensures) ∙ not-false (good .result) (c .before .if1 .left),
+      sym (free .ensures) ∙ not-false (free .result) (c .if2 .left),
+    )
 
 pub assign-refusal-spec : {M : Type 1} → statement M
 assign-refusal-spec =

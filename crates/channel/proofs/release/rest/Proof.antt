@@ -1,5 +1,6 @@
 -- `rest`: the bank at rest with its three trackers unlocked.
 use Rattle.channel_model.specs.Opening.{restingBank}
+use Rattle.channel.proofs.Releasing.{resting-with}
 use borrow.Author.Needs.{needs}
 use Rattle.channel.proofs.release.rest.Statement.{statement}
 use Rattle.channel.proofs.release.rest.Tie as tie
@@ -15,9 +16,7 @@ unlock-requires-3 c κs = search needs
 
 returns : tie.Need-returns
 unfolding restingBank
-returns c =
-    let b = c .before .before .before .args .b in
-    λ i. restingBank (b .«max_fade_steps») (c .before .before .unlock .ensures i) (c .before .unlock2 .ensures i) (c .unlock3 .ensures i)
+returns c = resting-with _ (c .before .before .unlock .ensures) (c .before .unlock2 .ensures) (c .unlock3 .ensures)
 
 pub rest-spec : {M : Type 1} → statement M
 rest-spec = tie.close (tie.spec unlock-requires unlock-requires-2 unlock-requires-3 returns)

@@ -1,0 +1,2 @@
+-- Laws that the proof of open cites.
+pub mod OpeningCases
