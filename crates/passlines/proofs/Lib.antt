@@ -1,4 +1,5 @@
 -- Laws of digits, and of texts laid over a buffer.
 pub mod DigitLaws
 pub mod LaidLaws
+pub mod TextLengths
 pub mod WorkedLines

@@ -1,0 +1,2 @@
+-- Laws of the stream's places.
+pub mod FlowLaws

@@ -1,0 +1,2 @@
+-- The stream of `passlist`.
+pub mod Flow

@@ -1,0 +1,62 @@
+// The line of a block.
+ghost use mathlib.Core.Path.{_≡_};
+ghost use Rattle.passtext.specs.Lines.{flagAndSamples};
+ghost use Rattle.passrun.specs.Judging.{shownOf, answeredBy, blockJudged};
+ghost use Rattle.passrun.specs.Buffers.{printed, printedWith, asPrinted};
+use crate::pass::Judged;
+use crate::pass::Pass;
+use crate::pass::Stage;
+use channel_model::Answer;
+use channel_model::Blocked;
+use passlines::lines::Shown;
+
+fn shown(a: Answer) -> Shown
+    ensures { λ r. ⌜ r ≡ shownOf a ⌝ }
+{
+    Shown {
+        locked: a.locked,
+        tracker: a.tracker,
+        fade: a.fade_count,
+        phase: a.phase,
+        frequency: a.frequency,
+        snr: a.snr,
+    }
+}
+
+// A block's answer: its line in the list, or its refusal.
+fn take_answer(p: Pass, b: Blocked, out: &mut [u8], at: usize) -> Judged
+    ensures { λ r. ⌜ asPrinted r (now (out .exit)) ≡ printed (answeredBy (b .answer .refusal) (b .answer) (b .channel) p) at (now (out .entry)) ⌝ }
+{
+    let a = b.answer;
+    if a.refusal != 0 {
+        return crate::pass::refuse(p, a.refusal, out, at);
+    }
+    let line = crate::pass::count(p.line);
+    let block = crate::pass::count(p.block);
+    let s = shown(a);
+    let next = passlines::lines::block_line(out, at, block, s);
+    let stage = Stage::Blocks;
+    let channel = b.channel;
+    let pass = Pass {
+        stage,
+        line,
+        block,
+        channel,
+    };
+    Judged { pass, at: next }
+}
+
+// The samples are read into a buffer of the function's own, which the channel normalises in place.
+pub fn take_block(p: Pass, line: &[u8], windows: &mut [f64], out: &mut [u8], at: usize) -> Judged
+    ensures { λ r. ⌜ (asPrinted r (now (out .exit)), now (windows .exit)) ≡ printedWith (blockJudged (flagAndSamples (now (line .entry))) p (now (windows .entry))) at (now (out .entry)) ⌝ }
+{
+    let mut samples = [0.0f32; 4096];
+    let said = passtext::block::block_line(line, &mut samples);
+    let passtext::block::Block::Taken { flag, count } = said else {
+        return crate::pass::refuse(p, 13, out, at);
+    };
+    let mut none = [0.0f32; 1];
+    let c = p.channel;
+    let b = channel::block::block(c, flag, &mut samples[..count], &mut none[..0], windows);
+    take_answer(p, b, out, at)
+}
