@@ -66,8 +66,8 @@ impl Beside {
         (refusal, both)
     }
 
-    pub fn build(reference: Reference, b: &Built, tally: &mut Tally) -> Beside {
-        let both = Beside { reference: reference.build(b), port: Some(Port::build(b)) };
+    pub fn build(reference: Reference, with_port: bool, b: &Built, tally: &mut Tally) -> Beside {
+        let both = Beside { reference: reference.build(b), port: with_port.then(|| Port::build(b)) };
         tally.note(both.unlike(), "build");
         both
     }
@@ -116,6 +116,11 @@ impl Beside {
             port.release();
             tally.note(self.unlike(), "release");
         }
+    }
+
+    /// The reference's channel as it stands.
+    pub fn read(&self) -> Built {
+        self.reference.read()
     }
 
     pub fn figures(&self, tally: &mut Tally) -> [f32; 12] {

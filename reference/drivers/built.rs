@@ -1,16 +1,21 @@
 //! Channels built from plain numbers, which no calls make: three unlike trackers, pruning, trackers 1 and 2 in use, any marks, NaN and infinities.
 //! Each is given a few blocks, in the reference and in the port, and all that they answer and leave is compared bit for bit.
 //!
-//!     built [--build exported|counted] [--seed N] [--count N] [--longest PAIRS]
+//!     built [--build exported|counted] [--seed N] [--count N] [--longest PAIRS] [--words 1]
+//!
+//! With `--words 1` the port is left out, and the channels, the blocks and what the reference answers are written as words, for
+//! crates/channel_vectors (README.md has their form). The window memory is then filled by a rule, so that it need not be written.
 
 mod api;
 mod beside;
 mod port;
+mod recorded;
 mod values;
 
-use api::shapes::{Built, MEMORY, PAIRS, Tracker};
 use api::Reference;
+use api::shapes::{Built, MEMORY, PAIRS, STRETCH, Tracker};
 use beside::{Beside, Tally};
+use recorded::{Kind, Record};
 use values::{Random, Signal, Words, built, built_f32, stop};
 
 const TURN: f64 = 2.0 * std::f64::consts::PI;
@@ -108,38 +113,113 @@ fn channel(r: &mut Random, reference: Reference) -> Built {
     }
 }
 
+/// Window memory for a run with the port: any numbers.
+fn any_window(r: &mut Random, odd: bool) -> Vec<f64> {
+    (0..MEMORY).map(|_| if odd { built(r, 1.0) } else { r.unit() }).collect()
+}
+
+/// Window memory that words can tell: by the rule, and some odd pairs where the trackers look next.
+fn told_window(r: &mut Random, odd: bool, b: &Built) -> Vec<f64> {
+    let start = r.below(64);
+    Record::new(Kind::Fill).whole(start).print();
+    let mut window: Vec<f64> = (0..MEMORY as u64).map(|i| recorded::filled(start, i)).collect();
+    let trackers = [&b.pll, &b.trackers[0], &b.trackers[1], &b.trackers[2]];
+    for (k, t) in trackers.iter().enumerate().filter(|_| odd) {
+        let pair = STRETCH * k + 2 * (recorded::pushed(t) as usize % PAIRS);
+        for place in [pair, pair + 1] {
+            window[place] = built(r, 1.0);
+            Record::new(Kind::Poke).whole(place as u64).float(window[place]).print();
+        }
+    }
+    window
+}
+
+struct Run {
+    reference: Reference,
+    as_words: bool,
+    longest: u64,
+    tally: Tally,
+}
+
+impl Run {
+    fn told(&self, both: &Beside) {
+        if self.as_words {
+            recorded::state(&both.read());
+        }
+    }
+
+    fn block(&mut self, both: &mut Beside, flag: u64, first: &mut [f32], second: &mut [f32], window: &mut [f64]) {
+        let asked = self.as_words.then(|| recorded::asked(flag, first, second, MEMORY));
+        let a = both.block(flag, first, second, window, &mut self.tally);
+        if let Some(line) = asked {
+            recorded::answered(line, &a, first, second, window);
+        }
+        self.told(both);
+    }
+
+    fn figures(&mut self, both: &Beside) {
+        let twelve = both.figures(&mut self.tally);
+        if self.as_words {
+            Record::new(Kind::Figures).floats32(&twelve).print();
+        }
+    }
+
+    fn release(&mut self, both: &mut Beside) {
+        both.release(&mut self.tally);
+        if self.as_words {
+            Record::new(Kind::Release).print();
+        }
+        self.told(both);
+    }
+
+    fn build(&mut self, b: &Built) -> Beside {
+        if self.as_words {
+            recorded::build(b, &self.reference.tracker(b.rate as f64 / b.factor as f64, b.modulation as u64));
+        }
+        Beside::build(self.reference, !self.as_words, b, &mut self.tally)
+    }
+
+    /// One channel with its blocks.
+    fn one(&mut self, seed: u64) {
+        let mut r = Random::new(seed);
+        let b = channel(&mut r, self.reference);
+        let odd = r.chance(3);
+        let mut window = if self.as_words { told_window(&mut r, odd, &b) } else { any_window(&mut r, odd) };
+        let decimated = b.rate as f64 / b.factor as f64;
+        let mut signals = [0, 1].map(|_| Signal::new(&mut r, b.modulation as u64, decimated));
+        let mut both = self.build(&b);
+        for _ in 0..1 + r.below(4) {
+            let flag = r.pick(&[1, 1, 1, 1, 1, 1, 0, 2, 3, 4]);
+            let pairs = if flag > 1 { 0 } else { r.below(self.longest + 1) as usize };
+            let pairs = if r.chance(3) { 0 } else { pairs };
+            let there = !r.chance(4);
+            let mut first = signals[0].samples(&mut r, pairs, there);
+            let mut second = if b.two != 0 { signals[1].samples(&mut r, pairs, there) } else { Vec::new() };
+            self.block(&mut both, flag, &mut first, &mut second, &mut window);
+            if r.chance(4) {
+                self.figures(&both);
+            }
+        }
+        if r.chance(3) {
+            self.release(&mut both);
+        }
+    }
+}
+
 fn main() {
     let words = Words::new();
     let name = words.get("--build").unwrap_or("exported");
     let reference = Reference::named(name).unwrap_or_else(|| stop("--build exported or counted"));
     let (seed, count) = (words.number("--seed", 1), words.number("--count", 1_000));
     let longest = words.number("--longest", 300).min(4_096);
-    let mut tally = Tally::default();
-    for one in seed..seed + count {
-        let mut r = Random::new(one);
-        let b = channel(&mut r, reference);
-        let odd = r.chance(3);
-        let mut window: Vec<f64> = (0..MEMORY).map(|_| if odd { built(&mut r, 1.0) } else { r.unit() }).collect();
-        let decimated = b.rate as f64 / b.factor as f64;
-        let mut signals = [0, 1].map(|_| Signal::new(&mut r, b.modulation as u64, decimated));
-        let mut both = Beside::build(reference, &b, &mut tally);
-        for _ in 0..1 + r.below(4) {
-            let flag = r.pick(&[1, 1, 1, 1, 1, 1, 0, 2, 3, 4]);
-            let pairs = if flag > 1 { 0 } else { r.below(longest + 1) as usize };
-            let pairs = if r.chance(3) { 0 } else { pairs };
-            let there = !r.chance(4);
-            let mut first = signals[0].samples(&mut r, pairs, there);
-            let mut second = if b.two != 0 { signals[1].samples(&mut r, pairs, there) } else { Vec::new() };
-            both.block(flag, &mut first, &mut second, &mut window, &mut tally);
-            if r.chance(4) {
-                both.figures(&mut tally);
-            }
-        }
-        if r.chance(3) {
-            both.release(&mut tally);
-        }
+    let as_words = words.number("--words", 0) != 0;
+    let mut run = Run { reference, as_words, longest, tally: Tally::default() };
+    for seed in seed..seed + count {
+        run.one(seed);
     }
     reference.counts();
-    tally.print();
-    std::process::exit((tally.differing != 0) as i32);
+    if !as_words {
+        run.tally.print();
+        std::process::exit((run.tally.differing != 0) as i32);
+    }
 }

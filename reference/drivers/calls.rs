@@ -1,6 +1,6 @@
 //! Seeded lists of calls and their answers, as text on standard output.
 //!
-//!     calls [--build exported|platform|counted] [--seed N] [--lists N] [--longest PAIRS] [--brief 1] [--port 1]
+//!     calls [--build exported|platform|counted] [--seed N] [--lists N] [--longest PAIRS] [--brief 1] [--port 1] [--words 1]
 //!
 //! One call a line, ` = ` before its answer. Lines:
 //!
@@ -16,16 +16,19 @@
 //! Lists are run-on hexadecimal f32, `-` if empty, and `same` in the answer if no bit changed.
 //! WINDOW is the digest of the 8,192 numbers (values.rs, `digest`). With `--brief 1` lists are
 //! written as their digest, so that long runs can be compared without their samples. With `--port 1` nothing is
-//! written: each call is made to the port too, and all that differs in a bit is told on standard error.
+//! written: each call is made to the port too, and all that differs in a bit is told on standard error. With `--words 1`
+//! the calls are written as words, for crates/channel_vectors (README.md has their form).
 
 mod api;
 mod beside;
 mod port;
+mod recorded;
 mod values;
 
 use api::shapes::{MEMORY, STRETCH, Settings};
 use api::{Reference, new_window};
 use beside::{Beside, Tally};
+use recorded::{Kind, Record};
 use std::io::Write;
 use values::{ODD, Random, Signal, Words, digest, hex, hex32, stop};
 
@@ -37,6 +40,7 @@ struct Run<'a, W: Write> {
     window: Vec<f64>,
     settings: Settings,
     brief: bool,
+    as_words: bool,
     longest: u64,
     out: &'a mut W,
 }
@@ -91,7 +95,7 @@ fn usual_frequency(r: &mut Random) -> f64 {
 
 impl<W: Write> Run<'_, W> {
     fn line(&mut self, text: &str) {
-        if !self.with_port {
+        if !self.with_port && !self.as_words {
             writeln!(self.out, "{text}").expect("standard output can be written");
         }
     }
@@ -114,6 +118,9 @@ impl<W: Write> Run<'_, W> {
         if refusal != 0 {
             self.settings = Settings { rate: 1_000, factor: 1, modulation: 0, two: 0, bank: 0, ..s };
         }
+        if self.as_words {
+            recorded::open(&s, refusal);
+        }
         let ratio = hex(s.ratio);
         self.line(&format!(
             "open {} {} {} {} {} {} {} {} {ratio} = {refusal}",
@@ -126,6 +133,9 @@ impl<W: Write> Run<'_, W> {
         let r = &mut self.random;
         let f: [f64; 4] = [0; 4].map(|_| if odd { frequency(r) } else { usual_frequency(r) });
         let refusal = channel.assign(f, self.tally);
+        if self.as_words {
+            recorded::assign(f, refusal);
+        }
         self.line(&format!("assign {} {} {} {} = {refusal}", hex(f[0]), hex(f[1]), hex(f[2]), hex(f[3])));
     }
 
@@ -139,6 +149,9 @@ impl<W: Write> Run<'_, W> {
             let place = STRETCH * stretch + (start + offset) % STRETCH;
             let value = if self.random.chance(6) { self.random.pick(&ODD) } else { self.random.noise() };
             self.window[place] = value;
+            if self.as_words {
+                Record::new(Kind::Poke).whole(place as u64).float(value).print();
+            }
             self.line(&format!("poke {place} {}", hex(value)));
         }
     }
@@ -153,6 +166,12 @@ impl<W: Write> Run<'_, W> {
     ) -> u32 {
         if self.with_port {
             return channel.block(flag, &mut first, &mut second, &mut self.window[..length], self.tally).locked;
+        }
+        if self.as_words {
+            let asked = recorded::asked(flag, &first, &second, length);
+            let a = channel.block(flag, &mut first, &mut second, &mut self.window[..length], self.tally);
+            recorded::answered(asked, &a, &first, &second, &self.window[..MEMORY]);
+            return a.locked;
         }
         let (first_before, second_before) = (self.written(&first), self.written(&second));
         let bits = |list: &[f32]| list.iter().map(|v| v.to_bits()).collect::<Vec<u32>>();
@@ -170,12 +189,20 @@ impl<W: Write> Run<'_, W> {
     }
 
     fn figures(&mut self, channel: &Beside) {
-        let twelve = channel.figures(self.tally).map(hex32).join(" ");
+        let twelve = channel.figures(self.tally);
+        if self.as_words {
+            Record::new(Kind::Figures).floats32(&twelve).print();
+            recorded::state(&channel.read());
+        }
+        let twelve = twelve.map(hex32).join(" ");
         self.line(&format!("figures = {twelve}"));
     }
 
     fn release(&mut self, channel: &mut Beside) {
         channel.release(self.tally);
+        if self.as_words {
+            Record::new(Kind::Release).print();
+        }
         self.line("release");
     }
 
@@ -319,15 +346,29 @@ fn main() {
     let longest = words.number("--longest", 4_096).min(4_096);
     let brief = words.number("--brief", 0) != 0;
     let with_port = words.number("--port", 0) != 0;
+    let as_words = words.number("--words", 0) != 0;
     let mut tally = Tally::default();
-    let mut out = std::io::BufWriter::new(std::io::stdout().lock());
+    let mut out = std::io::BufWriter::new(std::io::stdout());
     for list in seed..seed + lists {
         let mut window = new_window();
         window.push(0.0); // so that one number too many can be lent
         let mut random = Random::new(list);
         let settings = usual_settings(&mut random);
-        let mut run =
-            Run { reference, with_port, tally: &mut tally, random, window, settings, brief, longest, out: &mut out };
+        let mut run = Run {
+            reference,
+            with_port,
+            tally: &mut tally,
+            random,
+            window,
+            settings,
+            brief,
+            as_words,
+            longest,
+            out: &mut out,
+        };
+        if as_words {
+            Record::new(Kind::Zeros).print();
+        }
         run.line(&format!("list {list}"));
         let mut channel = run.open();
         if run.random.chance(2) {

@@ -3,6 +3,7 @@ use mathlib.Core.List.{List}
 use mathlib.Core.Bool.{cond}
 use Prim.Native.Nat.{ℕ, _+_, _-_, _*_, _%_, _^_}
 use lib.Dec.{leb, ltb}
+use lib.Ieee.{Float, binary64, toBits}
 use Rattle.sequences.specs.Folds.{fold}
 use Rattle.sequences.specs.Stretches.{stretch}
 
@@ -19,3 +20,7 @@ withDigit v b = v % 2 ^ 60 * 16 + digitOf b
 unfoldable pub wordAt : ℕ → List ℕ → ℕ
 unfolding withDigit
 wordAt a line = fold withDigit 0 (stretch a 16 line)
+
+-- one number more in a word that stands for many, modulo the prime 2 ^ 59 - 55
+unfoldable pub mixed : ℕ → Float → ℕ
+mixed sum x = sum % (2 ^ 59 - 55) * 31 + toBits binary64 x % (2 ^ 59 - 55)

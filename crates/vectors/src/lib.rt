@@ -1,4 +1,6 @@
 // Reading outside vectors: numbers at fixed places of a line. For the programs that run vectors and compare.
+pub mod numbers;
+
 ghost use mathlib.Core.Path.{_≡_};
 ghost use mathlib.Core.Bool.{false};
 ghost use Prim.Native.Nat.{_+_, _<_, _≤_};
