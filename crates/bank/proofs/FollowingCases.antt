@@ -1,16 +1,17 @@
 -- Whether a tracker fades, and a bank from its three trackers over the samples. Assumes nothing.
 use Prim.Native.Nat.{ℕ, _*_}
 use mathlib.Core.Path.{_≡_, refl, sym, ap, _∙_}
-use mathlib.Core.Bool.{Bool, true, false, _&&_}
+use mathlib.Core.Bool.{Bool, true, false, true≢false, _&&_, _||_}
 use mathlib.Core.List.{List}
 use lib.Dec.{eqb}
 use lib.Ieee.{Float}
 use Rattle.sequences.specs.Stretches.{within}
 use Rattle.tracker.specs.declared.state.Tracked.{Tracked}
 use Rattle.tracking.specs.Following.{Held, overLists}
+use Rattle.alike.specs.Alike.{thrice}
 use Rattle.bank.specs.declared.state.EkfTrackingBank.{EkfTrackingBank}
 use Rattle.bank.specs.Pruning.{withTrackers}
-use Rattle.bank.specs.Following.{Lists, onStretch, fades, bankFollowed}
+use Rattle.bank.specs.Following.{Lists, onStretch, fades, AsOne, bankFollowed}
 
 module _ (b : EkfTrackingBank) (i : ℕ) where
   pub in-fade : b .«in_fade» ≡ true → eqb (b .«active_idx») i ≡ fades b i
@@ -20,6 +21,11 @@ module _ (b : EkfTrackingBank) (i : ℕ) where
   pub no-fade : b .«in_fade» ≡ false → false ≡ fades b i
   unfolding fades
   no-fade h = ap (λ (z : Bool). z && eqb (b .«active_idx») i) (sym h)
+
+-- of two tests neither passed
+pub neither : (a b : Bool) → (a || b) ≡ false → a ≡ false
+neither true b h = absurd (true≢false h)
+neither false b h = refl
 
 module _ (dt : Float) (l : Lists) where
   abbrev over : ℕ → Bool → Held → Held
@@ -44,3 +50,18 @@ module _ (dt : Float) (l : Lists) where
       ap (λ (h : Held). (withTrackers b (h .0) t1 t2 (b .«terminated_in_fade»), w2)) g0
       ∙ ap (λ (h : Held). (withTrackers b (s1 .0) (h .0) t2 (b .«terminated_in_fade»), w2)) g1
       ∙ ap (λ (h : Held). (withTrackers b (s1 .0) (s2 .0) (h .0) (b .«terminated_in_fade»), h .1)) g2
+
+  -- the same where one run stands for the three
+  pub followed-once : (b : EkfTrackingBank) (w : List Float) {r : Tracked} {v : List Float} → AsOne b w
+      → (r, r, r, v) ≡ thrice (overLists (l .two) dt false (l .first) (l .second)) (b .t0, w) → (withTrackers b r r r (b .«terminated_in_fade»), v) ≡ bankFollowed dt l (b, w)
+  unfolding thrice
+  followed-once b w {r} {v} a e =
+      let h0 = over 1 false (b .t0, w) in
+      let h1 = over 2 false (b .t0, h0 .1) in
+      let h2 = over 3 false (b .t0, h1 .1) in
+      let k0 : (r, h0 .1) ≡ h0 = ap (λ (z : Tracked × Tracked × Tracked × List Float). (z .0, h0 .1)) e in
+      let k1 : (r, h1 .1) ≡ over 2 false (b .t1, h0 .1) =
+      ap (λ (z : Tracked × Tracked × Tracked × List Float). (z .1, h1 .1)) e ∙ ap (λ (t : Tracked). over 2 false (t, h0 .1)) (sym (a .alike .first)) in
+      let k2 : (r, v) ≡ over 3 false (b .t2, h1 .1) =
+      ap (λ (z : Tracked × Tracked × Tracked × List Float). (z .2, z .3)) e ∙ ap (λ (t : Tracked). over 3 false (t, h1 .1)) (sym (a .alike .second)) in
+      followed-is b w (no-fade b 0 (a .calm)) (no-fade b 1 (a .calm)) (no-fade b 2 (a .calm)) k0 k1 k2

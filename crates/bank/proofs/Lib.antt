@@ -1,9 +1,4 @@
 -- What the proofs of the bank's functions cite, on plain values, and that the source's order of samples and trackers gives the same bank.
-pub mod DiscrepancyCases
-pub mod PruningCases
-pub mod ChoiceCases
-pub mod FadeCases
-pub mod FeatureCases
 pub mod FollowingCases
 pub mod WindowLength
 pub mod FourStretches

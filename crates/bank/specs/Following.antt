@@ -3,11 +3,13 @@
 use Prim.Native.Nat.{ℕ, _+_, _*_}
 use mathlib.Core.Bool.{Bool, true, false, _&&_}
 use mathlib.Core.List.{List}
+use mathlib.Core.Path.{_≡_}
 use lib.Dec.{eqb}
 use lib.Ieee.{Float}
 use Rattle.sequences.specs.Stretches.{within}
 use Rattle.tracker.specs.declared.state.Tracked.{Tracked}
 use Rattle.tracking.specs.Following.{Held, overLists}
+use Rattle.alike.specs.Alike.{Alike}
 use Rattle.bank.specs.declared.state.EkfTrackingBank.{EkfTrackingBank}
 use Rattle.bank.specs.Pruning.{withTrackers}
 
@@ -24,6 +26,11 @@ onStretch i dt fade l h = within (2048 * i) 2048 (overLists (l .two) dt fade (l 
 -- tracker i is the one in use, in a fade
 unfoldable pub fades : EkfTrackingBank → ℕ → Bool
 fades b i = b .«in_fade» && eqb (b .«active_idx») i
+
+-- no tracker fades, and the three are equal with their stretches
+pub record AsOne (b : EkfTrackingBank) (w : List Float) : Type 0 where
+  pub calm : b .«in_fade» ≡ false
+  pub alike : Alike (b .t0) (b .t1) (b .t2) w
 
 -- a bank with the window memory
 abbrev pub Kept : Type 0

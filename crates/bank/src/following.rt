@@ -1,8 +1,11 @@
 // The three trackers over the samples of a block, each on its own stretch of the window memory.
 ghost use mathlib.Core.Path.{_≡_};
+ghost use mathlib.Core.Bool.{true};
 ghost use lib.ListN.{length};
-ghost use Rattle.bank.specs.Following.{fades, bankFollowed};
+ghost use Rattle.bank.specs.Following.{fades, AsOne, bankFollowed};
 use crate::state::EkfTrackingBank;
+use alike::once::are_alike;
+use alike::once::follow_once;
 use tracking::stretch::follow_on;
 
 // Tracker i is the one in use, in a fade.
@@ -15,8 +18,8 @@ fn is_fading(b: EkfTrackingBank, i: u64) -> bool
     false
 }
 
-// Tracker 0, 1 and 2, each over all samples of one list or of two.
-pub fn follow(
+// Each tracker by itself.
+fn follow_each(
     b: EkfTrackingBank,
     two: bool,
     first: &[f32],
@@ -38,4 +41,38 @@ pub fn follow(
     r.t1 = h1;
     r.t2 = h2;
     r
+}
+
+// Whether one run will do for all three: they are alike, and none fades. Below 64 pairs it is not worth asking.
+fn moves_as_one(b: EkfTrackingBank, n: usize, w: &[f64]) -> bool
+    requires { ⌜ length (now w) ≡ 8192 ⌝ }
+    ensures { λ r. ⌜ (r ≡ true → AsOne b (now (w .entry))) ⌝ }
+{
+    if b.in_fade | (n < 128) {
+        return false;
+    }
+    are_alike(b.t0, b.t1, b.t2, w)
+}
+
+// Tracker 0, 1 and 2, each over all samples of one list or of two. While they are alike one is run, and copied.
+pub fn follow(
+    b: EkfTrackingBank,
+    two: bool,
+    first: &[f32],
+    second: &[f32],
+    w: &mut [f64],
+    dt: f64,
+) -> EkfTrackingBank
+    requires { ⌜ length (now w) ≡ 8192 ⌝ }
+    ensures { λ r. ⌜ (r, now (w .exit)) ≡ bankFollowed dt record { two = two; first = now (first .entry); second = now (second .entry) } (b, now (w .entry)) ⌝ }
+{
+    if moves_as_one(b, first.len(), w) {
+        let h = follow_once(b.t0, two, first, second, w, dt);
+        let mut r = b;
+        r.t0 = h;
+        r.t1 = h;
+        r.t2 = h;
+        return r;
+    }
+    follow_each(b, two, first, second, w, dt)
 }

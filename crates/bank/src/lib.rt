@@ -1,9 +1,4 @@
-// Module 7 of the scope: a bank of three trackers.
-pub mod choice;
-pub mod discrepancy;
-pub mod fade;
-pub mod features;
+// Module 7 of the scope: a bank of three trackers, what is read from them, and the three over a block.
 pub mod following;
-pub mod pruning;
 pub mod readings;
 pub mod state;

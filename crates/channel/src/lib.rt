@@ -3,6 +3,4 @@
 pub mod assign;
 pub mod block;
 pub mod figures;
-mod quiet;
-mod refusals;
 pub mod release;

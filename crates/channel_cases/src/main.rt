@@ -3,6 +3,7 @@
 // differs is printed before it, counted in the group's list.
 mod assigned;
 mod banked;
+mod bankless;
 mod calls;
 mod fades;
 mod idle;
@@ -10,12 +11,11 @@ mod refusals;
 mod releases;
 mod report;
 mod rules;
-mod single;
 
 fn main() {
     idle::run();
     assigned::run();
-    single::run();
+    bankless::run();
     banked::run();
     fades::run();
     refusals::run();

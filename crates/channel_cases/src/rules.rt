@@ -7,12 +7,12 @@ use crate::calls::marks_are;
 use crate::calls::pair;
 use crate::calls::settings;
 use crate::report::say;
-use bank::choice::choose;
-use bank::pruning::prune;
 use bank::state::EkfTrackingBank;
 use channel::assign::assign;
 use channel_model::Channel;
 use ieee754::pattern::f64_from_bits;
+use pruning::pruning::prune;
+use selection::choice::choose;
 use tracker::state::Tracked;
 
 // Locked, with guard 0 and a metric that a sample (0, 0), which adds 0.001 to 0.999 of it, brings to the one named here.

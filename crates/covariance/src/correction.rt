@@ -27,14 +27,14 @@ pub fn gain(p: [f64; 36], channel: Channel, s: f64) -> [f64; 6]
 }
 
 // Rust's `v.max(1e-15)`. The comparison is false for a NaN, which so becomes 1e-15.
-fn floor_variance(v: f64) -> f64
+pub fn floor_variance(v: f64) -> f64
     ensures { λ r. ⌜ r ≡ maximum v leastVariance ⌝ }
 {
     if v >= 1e-15 { v } else { 1e-15 }
 }
 
 // P with each variance at least 1e-15.
-fn floor_diagonal(p: [f64; 36]) -> [f64; 36]
+pub fn floor_diagonal(p: [f64; 36]) -> [f64; 36]
     ensures { λ r. ⌜ r ≡ floored p ⌝ }
 {
     let mut out = p;

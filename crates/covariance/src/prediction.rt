@@ -15,7 +15,7 @@ pub struct ProcessNoise {
 }
 
 // Whether the two frequencies count as equal.
-fn same_frequency(ratio: f64) -> bool
+pub fn same_frequency(ratio: f64) -> bool
     ensures { λ r. ⌜ r ≡ sameFrequency ratio ⌝ }
 {
     abs(ratio - 1.0) < 1e-6

@@ -7,6 +7,7 @@ pub mod Tails
 pub mod Approximations
 pub mod PowerOfTwo
 pub mod SameValue
+pub mod SmallRemainder
 pub mod FromFloat
 pub mod ToFloat
 pub mod RatioBound

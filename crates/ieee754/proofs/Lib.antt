@@ -6,6 +6,8 @@ pub mod RootDigits
 pub mod SquareRootCases
 pub mod NearestRoot
 pub mod SignCases
+pub mod SizeBits
 pub mod TruncationCases
 pub mod RoundAwayCases
 pub mod ConversionCases
+pub mod ShortRootCases

@@ -26,11 +26,11 @@ pub one-is : ofBits binary64 0x3ff0_0000_0000_0000 ≡ one
 unfolding ofBits
 one-is = refl
 
-or-cases : (p q : Bool) → T (p || q) → T p ⊎ T q
+pub or-cases : (p q : Bool) → T (p || q) → T p ⊎ T q
 or-cases true q h = inl tt
 or-cases false q h = inr h
 
-nor : (p q : Bool) → p || q ≡ false → T (not p) × T (not q)
+pub nor : (p q : Bool) → p || q ≡ false → T (not p) × T (not q)
 nor true q h = absurd (true≢false h)
 nor false true h = absurd (true≢false h)
 nor false false h = (tt, tt)

@@ -14,7 +14,10 @@ pub fn hypot(x: f64, y: f64) -> f64
 pub fn hypotf(x: f32, y: f32) -> f32
     ensures { λ r. ⌜ r ≡ hypotenuseAt binary32 x y ⌝ }
 {
-    let a = crate::conversion::f32_to_f64(x);
-    let b = crate::conversion::f32_to_f64(y);
-    crate::conversion::f64_to_f32(hypot(a, b))
+    if (x != x) | (y != y) {
+        return 0.0 / 0.0;
+    }
+    let a = x as f64;
+    let b = y as f64;
+    crate::short_root::sqrt_to_f32(a * a + b * b)
 }

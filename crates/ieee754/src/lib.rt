@@ -5,5 +5,6 @@ pub mod integral;
 pub mod order;
 pub mod pattern;
 pub mod remainder;
+pub mod short_root;
 pub mod sign;
 pub mod square_root;

@@ -96,13 +96,13 @@ fn nearest_root(m: u64, q: u64) -> u64
 }
 
 // A root, and half the inverse of it.
-struct Estimate {
-    root: f64,
-    half: f64,
+pub struct Estimate {
+    pub root: f64,
+    pub half: f64,
 }
 
 // One step of Goldschmidt's iteration, which doubles the digits that are right.
-fn refined(e: Estimate) -> Estimate {
+pub fn refined(e: Estimate) -> Estimate {
     let t = 1.5 - e.root * e.half;
     Estimate {
         root: e.root * t,

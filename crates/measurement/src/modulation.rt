@@ -1,6 +1,7 @@
 // How the signal is modulated, and the range of phases that this leaves.
 ghost use mathlib.Core.Path.{_≡_};
 ghost use lib.Ieee.{binary64};
+ghost use Rattle.ieee754.specs.Remainder.{remEuclid};
 ghost use Rattle.measurement.specs.Phase.{limit, halfLimit, wrapped};
 use ieee754::remainder::rem_euclid;
 
@@ -32,11 +33,21 @@ fn half_limit_of(m: Modulation) -> f64
     }
 }
 
+// The remainder of y by the range's length. Within the range it is y itself, and the slow `%` is left out.
+fn remainder_within(y: f64, limit: f64) -> f64
+    ensures { λ r. ⌜ r ≡ remEuclid binary64 y limit ⌝ }
+{
+    if (0.0 <= y) & (y < limit) {
+        return y;
+    }
+    rem_euclid(y, limit)
+}
+
 // An angle brought into the range around 0.
 pub fn wrap(m: Modulation, angle: f64) -> f64
     ensures { λ r. ⌜ r ≡ wrapped m angle ⌝ }
 {
     let half = half_limit_of(m);
     let limit = limit_of(m);
-    rem_euclid(angle + half, limit) - half
+    remainder_within(angle + half, limit) - half
 }

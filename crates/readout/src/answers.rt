@@ -1,10 +1,10 @@
 // A block's answer: the channel's state after the call.
 ghost use mathlib.Core.Path.{_≡_};
 ghost use Rattle.channel_model.specs.Answers.{bankMetric, metricOf, answerOf};
-use bank::choice::tracker_numbered;
 use bank::state::EkfTrackingBank;
 use channel_model::Answer;
 use channel_model::Channel;
+use selection::choice::tracker_numbered;
 
 // The metric of a bank's tracker in use; 0 where none is.
 fn bank_metric(b: EkfTrackingBank) -> f64

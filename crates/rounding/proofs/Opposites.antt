@@ -65,7 +65,7 @@ mul-neg f (fin s m e) (fin t n d) =
 
 -- ---- both terms turned
 
-round-zero : (f : Format) (s : Bool) (c : ℕ) → 0 < c → round f s 0 c ≡ fin s 0 (pos 0)
+pub round-zero : (f : Format) (s : Bool) (c : ℕ) → 0 < c → round f s 0 c ≡ fin s 0 (pos 0)
 unfolding round units odd size span climb
 round-zero binary32 s c h = round-same binary32 s 0 c 0 1 h (omega arith) (omega arith)
 round-zero binary64 s c h = round-same binary64 s 0 c 0 1 h (omega arith) (omega arith)
@@ -119,7 +119,7 @@ zero-sum f true false b c h = let e : b - 0 ≡ b = omega arith in rw (lt-ltb 0 
 zero-sum f false true b c h = let e : b - 0 ≡ b = omega arith in rw (lt-ltb 0 b h, e)
 
 -- the term, rounded
-add-to-zero : (f : Format) (s t : Bool) (e d : ℤ) (n : ℕ) → add f (fin s 0 e) (fin t (suc n) d) ≡ round f t (suc n * up d) (down d)
+pub add-to-zero : (f : Format) (s t : Bool) (e d : ℤ) (n : ℕ) → add f (fin s 0 e) (fin t (suc n) d) ≡ round f t (suc n * up d) (down d)
 unfolding add
 add-to-zero f s t e d n =
     let z : 0 * up e * down d ≡ 0 = simp zero-mul in
@@ -136,7 +136,7 @@ sum-zeros f true false c h = round-zero f false c h
 sum-zeros f false true c h = round-zero f false c h
 sum-zeros f false false c h = round-zero f false c h
 
-add-zeros : (f : Format) (s t : Bool) (e d : ℤ) → add f (fin s 0 e) (fin t 0 d) ≡ fin (s && t) 0 (pos 0)
+pub add-zeros : (f : Format) (s t : Bool) (e d : ℤ) → add f (fin s 0 e) (fin t 0 d) ≡ fin (s && t) 0 (pos 0)
 unfolding add
 add-zeros f s t e d =
     let z : 0 * up e * down d ≡ 0 = simp zero-mul in

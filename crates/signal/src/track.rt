@@ -2,8 +2,6 @@
 ghost use mathlib.Core.Path.{_≡_};
 ghost use lib.ListN.{length};
 ghost use Rattle.channel_model.specs.Tracking as model;
-use bank::choice::tracker_numbered;
-use bank::fade::finish;
 use bank::readings::phase_of;
 use bank::readings::scale_of;
 use bank::state::EkfTrackingBank;
@@ -13,6 +11,8 @@ use ieee754::conversion::u64_to_f64;
 use readout::reading::centre;
 use readout::reading::read_from;
 use readout::values::unlock;
+use selection::choice::tracker_numbered;
+use selection::fade::finish;
 use tracking::stretch::follow_on;
 
 // The interval between two samples in tracking.

@@ -8,10 +8,10 @@ use lib.IntN.{ℤ, pos, negsuc}
 use lib.Dec.{T, leb, ltb→lt, leb→le, nleb→lt, lit<, lit≤}
 use lib.Pow.{pow-add, pow-pos, pow-mono, pow-lt}
 use lib.Ieee.{Float, nan, inf, fin, binary64, up, down, round, rem, neg, lt, fits, ofBits}
-use lib.Ieee.Fits.{down-pos, rem-fits}
 use lib.Ieee.Exact.{HasValue, round-exact}
-use Rattle.fixed_point.proofs.PowerOfTwo.{significand-lt, exponent-low, rescale}
-use Rattle.fixed_point.proofs.SameValue.{fits-unsigned, same-value}
+use Rattle.fixed_point.proofs.PowerOfTwo.{significand-lt, exponent-low}
+use Rattle.fixed_point.proofs.SameValue.{fits-unsigned}
+use Rattle.fixed_point.proofs.SmallRemainder.{rem-below}
 use Rattle.sincos.specs.Reduction.{turn, remainder}
 use Rattle.sincos.proofs.SignedUnit.{round-neg}
 
@@ -105,11 +105,8 @@ rest-upto a d dp =
 
 -- ---- within a turn
 pub within : (s : Bool) (m : ℕ) (e : ℤ) → T (fits binary64 (fin s m e)) → m * up e * 2 ^ 47 < turns * 1 * down e → fin s m e ≡ remainder (fin s m e)
-unfolding remainder
-within s m e f h =
-    same-value (fin s m e) (remainder (fin s m e)) s (m * up e) (down e) (down-pos e) f (rem-fits binary64 (fin s m e) turn f) (refl, refl)
-    (rescale (remainder (fin s m e)) s (m * up e * 2 ^ 47 % (turns * 1 * down e)) (down e * 2 ^ 47) (m * up e) (down e) (mul-pos (down-pos e) (pow-pos 47))
-    (sym (mul-assoc (m * up e) (down e) (2 ^ 47)) ∙ mul-right-comm (m * up e) (down e) (2 ^ 47) ∙ ap (λ (z : ℕ). z * down e) (sym (mod-eq-of-lt h))) (remainder-exact s m e f))
+unfolding remainder ofBits
+within s m e f h = rem-below s false m turns e (negsuc 46) f h
 
 pub within-turn : (θ : Float) → T (fits binary64 θ) → T (lt θ turn) → T (lt (neg turn) θ) → θ ≡ remainder θ
 unfolding lt neg ofBits

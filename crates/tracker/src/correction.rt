@@ -37,7 +37,7 @@ pub struct Corrected {
 }
 
 // What the tracker knows of a channel before its sample.
-fn prior_of(t: CarrierPllEkf, channel: Channel) -> Prior
+pub fn prior_of(t: CarrierPllEkf, channel: Channel) -> Prior
     ensures { λ r. ⌜ r ≡ priorOf t (phaseOf channel) ⌝ }
 {
     let x = t.x;
@@ -59,7 +59,7 @@ pub fn takes_gain(s: f64) -> bool
     abs(s) >= 1e-12
 }
 
-fn has_nan(x: [f64; 6]) -> bool
+pub fn has_nan(x: [f64; 6]) -> bool
     ensures { λ r. ⌜ r ≡ anyNan x ⌝ }
 {
     (x[0] != x[0])
@@ -71,7 +71,7 @@ fn has_nan(x: [f64; 6]) -> bool
 }
 
 // The channel's phase wrapped.
-fn wrap_phase(x: [f64; 6], channel: Channel, m: Modulation) -> [f64; 6]
+pub fn wrap_phase(x: [f64; 6], channel: Channel, m: Modulation) -> [f64; 6]
     ensures { λ r. ⌜ r ≡ wrappedPhase x (phaseOf channel) m ⌝ }
 {
     let i = phase_index(channel);
@@ -82,7 +82,7 @@ fn wrap_phase(x: [f64; 6], channel: Channel, m: Modulation) -> [f64; 6]
 }
 
 // The channel's frequency and chirp within their limits.
-fn limit(x: [f64; 6], channel: Channel) -> [f64; 6]
+pub fn limit(x: [f64; 6], channel: Channel) -> [f64; 6]
     ensures { λ r. ⌜ r ≡ limited x (phaseOf channel) ⌝ }
 {
     let i = phase_index(channel);
@@ -98,7 +98,7 @@ fn limit(x: [f64; 6], channel: Channel) -> [f64; 6]
     y
 }
 
-fn lose(t: CarrierPllEkf) -> CarrierPllEkf
+pub fn lose(t: CarrierPllEkf) -> CarrierPllEkf
     ensures { λ r. ⌜ r ≡ lostTracker t ⌝ }
 {
     let mut u = t;
@@ -163,7 +163,13 @@ fn apply(t: CarrierPllEkf, p: [f64; 36], channel: Channel, m: Measured) -> Corre
 }
 
 // A sample of the first channel enters the window.
-fn window(t: CarrierPllEkf, w: &mut [f64], channel: Channel, abs_i: f64, q_sq: f64) -> CarrierPllEkf
+pub fn window(
+    t: CarrierPllEkf,
+    w: &mut [f64],
+    channel: Channel,
+    abs_i: f64,
+    q_sq: f64,
+) -> CarrierPllEkf
     requires { ⌜ length (now w) ≡ 2048 ⌝ }
     ensures { λ r. ⌜ (r, now (w .exit)) ≡ windowed channel t (now (w .entry)) «abs_i» «q_sq» ⌝ }
 {

@@ -1,6 +1,6 @@
 // Module 3 of the scope: the carrier tracker, an extended Kalman filter with the phase, the frequency and the chirp of two channels as its states.
 pub mod correction;
-mod lock;
-mod prediction;
+pub mod lock;
+pub mod prediction;
 pub mod state;
 mod update;

@@ -17,7 +17,7 @@ fn noise_scale(adaptive: bool, lock_metric: f64) -> f64
     1.0
 }
 
-fn process_noise(t: CarrierPllEkf) -> ProcessNoise
+pub fn process_noise(t: CarrierPllEkf) -> ProcessNoise
     ensures { λ r. ⌜ r ≡ processNoise t ⌝ }
 {
     let s = noise_scale(t.adaptive_ekf, t.lock_metric);

@@ -1,5 +1,6 @@
 // A tracker predicted over an interval, and its own interval put back.
 ghost use mathlib.Core.Path.{_≡_};
+ghost use mathlib.Core.Bool.{cond};
 ghost use Rattle.tracking.specs.Following.{timed, predicted};
 use tracker::state::Tracked;
 
@@ -21,4 +22,11 @@ pub fn predict_over(h: Tracked, dt: f64) -> Tracked
     let p = h.p;
     t.ts = dt;
     t.predict(p)
+}
+
+// The block's interval for a locked tracker, its own for one that fades.
+pub fn interval_of(locked: bool, dt: f64, own: f64) -> f64
+    ensures { λ r. ⌜ r ≡ cond locked dt own ⌝ }
+{
+    if locked { dt } else { own }
 }

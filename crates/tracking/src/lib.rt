@@ -1,6 +1,6 @@
 // A tracker over the samples of a block.
-pub mod block;
-pub mod interval;
-pub mod step;
-pub mod step_dual;
+mod apart;
+mod block;
+mod interval;
+mod step;
 pub mod stretch;

@@ -4,27 +4,8 @@ ghost use Prim.Native.Nat.{_*_, _<_};
 ghost use lib.ListN.{length};
 ghost use Rattle.sequences.specs.Stretches.{within};
 ghost use Rattle.tracking.specs.Following.{overLists};
-use crate::block::follow_block;
-use crate::block::follow_block_dual;
+use crate::block::follow_lists;
 use tracker::state::Tracked;
-
-fn follow_lists(
-    h: Tracked,
-    two: bool,
-    first: &[f32],
-    second: &[f32],
-    w: &mut [f64],
-    dt: f64,
-    fade: bool,
-) -> Tracked
-    requires { ⌜ length (now w) ≡ 2048 ⌝ }
-    ensures { λ r. ⌜ (r, now (w .exit)) ≡ overLists two dt fade (now (first .entry)) (now (second .entry)) (h, now (w .entry)) ⌝ }
-{
-    if two {
-        return follow_block_dual(h, first, second, w, dt, fade);
-    }
-    follow_block(h, first, w, dt, fade)
-}
 
 // Stretch k, of one list or of two.
 pub fn follow_on(

@@ -8,7 +8,8 @@ use borrow.Author.Needs.{needs}
 use Rattle.ieee754.specs.Sign.{absolute, plusZero, signBit, signed}
 use Rattle.arctangent.specs.Directions.{pi, halfPi, quarterPi, threeQuartersPi}
 use Rattle.arctangent.specs.Steps.{regularAngle, infinity, upperAngle}
-use Rattle.arctangent.proofs.SignBits.{absolute-no-nan, absolute-sign}
+use Rattle.ieee754.proofs.SizeBits.{absolute-no-nan}
+use Rattle.arctangent.proofs.SignBits.{absolute-sign}
 use Rattle.arctangent.proofs.Cases.{positive-of}
 use Rattle.arctangent.proofs.plane.angle.Statement.{statement}
 use Rattle.arctangent.proofs.plane.angle.Tie as tie

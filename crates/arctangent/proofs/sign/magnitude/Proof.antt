@@ -2,7 +2,7 @@
 use mathlib.Core.Path.{sym, subst}
 use lib.Dec.{T}
 use borrow.Author.Needs.{needs}
-use Rattle.arctangent.proofs.SignBits.{size-bits, size-no-nan}
+use Rattle.ieee754.proofs.SizeBits.{size-bits, size-no-nan}
 use Rattle.arctangent.proofs.sign.magnitude.Statement.{statement}
 use Rattle.arctangent.proofs.sign.magnitude.Tie as tie
 

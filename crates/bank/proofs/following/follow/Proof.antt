@@ -1,48 +1,40 @@
--- `follow`, from its three trackers, each on its stretch.
-use Rattle.bank.proofs.FollowingCases.{followed-is}
+-- `follow`: one run for the three where they move as one, else each by itself.
+use Rattle.bank.proofs.FollowingCases.{followed-once}
 use borrow.Author.Needs.{needs}
 use Rattle.bank.proofs.following.follow.Statement.{statement}
 use Rattle.bank.proofs.following.follow.Tie as tie
 
-is-fading-requires : tie.Need-is-fading-requires
-is-fading-requires c κs = search needs
+moves-as-one-requires : tie.Need-moves-as-one-requires
+moves-as-one-requires c κs = search needs
 
-is-fading-requires-2 : tie.Need-is-fading-requires-2
-is-fading-requires-2 c κs = search needs
-
-is-fading-requires-3 : tie.Need-is-fading-requires-3
-is-fading-requires-3 c κs = search needs
-
-follow-on-requires : tie.Need-follow-on-requires
-follow-on-requires c κs = search needs
-
-follow-on-requires-2 : tie.Need-follow-on-requires-2
-follow-on-requires-2 c κs = search needs
-
-follow-on-requires-3 : tie.Need-follow-on-requires-3
-follow-on-requires-3 c κs = search needs
+follow-once-requires : tie.Need-follow-once-requires
+follow-once-requires c κs = (search needs, c .before .before .moves-as-one .ensures (c .before .if1 .taken) .alike .level)
 
 same-length : tie.Need-same-length
 same-length c = search needs
 
 returns : tie.Need-returns
 returns c =
-    let third = c .before .before in
-    let second = third .before .before .before .before in
-    let first = second .before .before .before .before in
-    let faded = first .before .before in
-    followed-is _ _ _ _ (faded .before .before .is-fading .ensures) (faded .before .is-fading2 .ensures) (faded .is-fading3 .ensures)
-    (first .follow-on .ensures) (second .follow-on2 .ensures) (third .follow-on3 .ensures)
+    let run = c .before .before in
+    let asked = run .before .before .before in followed-once _ _ _ _ (asked .moves-as-one .ensures (run .before .before .if1 .taken)) (run .follow-once .ensures)
+
+follow-each-requires : tie.Need-follow-each-requires
+follow-each-requires c κs = search needs
+
+same-length-2 : tie.Need-same-length-2
+same-length-2 c = search needs
+
+returns-2 : tie.Need-returns-2
+returns-2 c = search needs
 
 pub follow-spec : {M : Type 1} → statement M
 follow-spec =
     tie.close
     (tie.spec
-    is-fading-requires
-    is-fading-requires-2
-    is-fading-requires-3
-    follow-on-requires
-    follow-on-requires-2
-    follow-on-requires-3
+    moves-as-one-requires
+    follow-once-requires
     same-length
-    returns)
+    returns
+    follow-each-requires
+    same-length-2
+    returns-2)

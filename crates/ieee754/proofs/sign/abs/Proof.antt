@@ -1,25 +1,32 @@
--- `ieee754::sign::abs` meets its contract. Assumes nothing.
-use mathlib.Core.Path.{_≡_, refl, sym, ap, _∙_, subst}
-use mathlib.Core.Bool.{Bool, true, false, cond, not}
-use Prim.Native.Nat.{ℕ, _+_, _-_, _*_, _/_, _%_, _^_, _≤_, _<_}
-use native.Mathlib.Omega.{arith}
+-- `ieee754::sign::abs` meets its contract: a NaN is its own size, and of another number the sign's bit is cleared. Assumes nothing.
+use mathlib.Core.Path.{_≡_, sym, ap, _∙_, subst}
 use lib.Dec.{T}
-use lib.Ieee.{Float, nan, binary64, fits, isNan, lt, le, eq, ofBits, rem, add}
-use Rattle.ieee754.proofs.SignCases.{zero-is, abs-negative, abs-zero, abs-positive}
+use lib.Ieee.{Float, nan, binary64, fits}
+use lib.Ieee.Compare.{differs-from-itself}
+use Rattle.ieee754.specs.Sign.{absolute}
+use Rattle.ieee754.proofs.Fields.{equals-itself}
+use Rattle.ieee754.proofs.SizeBits.{size-bits, size-no-nan}
 use Rattle.ieee754.proofs.sign.abs.Statement.{statement}
 use Rattle.ieee754.proofs.sign.abs.Tie as tie
 
 held : (c : tie.Start) → T (fits binary64 (c .args .x))
 held c = subst T (sym (c .good .0 .1)) tt
 
+of-nan : (x : Float) → x ≡ nan → x ≡ absolute x
+unfolding absolute
+of-nan x h = h ∙ ap absolute (sym h)
+
 returns : tie.Need-returns
-returns c = abs-negative (c .before .args .x) (rw (zero-is binary64) at (c .if1 .taken))
+returns c = of-nan (c .before .args .x) (differs-from-itself (c .before .args .x) (subst T (sym (c .if1 .taken)) tt))
+
+float-to-bits-b : tie.Need-float-to-bits-b
+float-to-bits-b c = equals-itself (c .before .args .x) (c .if1 .left)
+
+float-from-bits-result : tie.Need-float-from-bits-result
+float-from-bits-result c = size-no-nan (c .before .args .x) (held (c .before)) (equals-itself (c .before .args .x) (c .if1 .left))
 
 returns-2 : tie.Need-returns-2
-returns-2 c = zero-is binary64 ∙ abs-zero binary64 (c .before .before .args .x) (held (c .before .before)) (rw (zero-is binary64) at (c .if2 .taken))
-
-returns-3 : tie.Need-returns-3
-returns-3 c = abs-positive (c .before .before .args .x) (rw (zero-is binary64) at (c .before .if1 .left)) (rw (zero-is binary64) at (c .if2 .left))
+returns-2 c = size-bits (c .before .args .x) (held (c .before))
 
 pub abs-spec : {M : Type 1} → statement M
-abs-spec = tie.close (tie.spec returns returns-2 returns-3)
+abs-spec = tie.close (tie.spec returns float-to-bits-b float-from-bits-result returns-2)

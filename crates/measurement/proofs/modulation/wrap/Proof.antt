@@ -10,8 +10,8 @@ half-limit-of-requires c κs = search needs
 limit-of-requires : tie.Need-limit-of-requires
 limit-of-requires c κs = search needs
 
-rem-euclid-requires : tie.Need-rem-euclid-requires
-rem-euclid-requires c κs = search needs
+remainder-within-requires : tie.Need-remainder-within-requires
+remainder-within-requires c κs = search needs
 
 returns : tie.Need-returns
 unfolding wrapped
@@ -19,4 +19,4 @@ returns c = cc
 
 pub wrap-spec : {M : Type 1} → statement M
 wrap-spec =
-    tie.close (tie.spec half-limit-of-requires limit-of-requires rem-euclid-requires returns)
+    tie.close (tie.spec half-limit-of-requires limit-of-requires remainder-within-requires returns)

@@ -1,0 +1,5 @@
+-- Module 3, the covariance of a tracker of one frequency, as two halves.
+pub mod Joined
+pub mod Steady
+pub mod HalfPrediction
+pub mod HalfCorrection

@@ -1,0 +1,66 @@
+-- `update`, made and not made.
+use mathlib.Core.Path.{_≡_, refl, sym, ap, _∙_}
+use borrow.Author.Needs.{needs}
+use Rattle.halves.specs.Joined.{joined, gains}
+use Rattle.tracker.specs.Correction.{takesGain}
+use Rattle.single.proofs.UpdateLaws.{made}
+use Rattle.single.proofs.update.update.Statement.{statement}
+use Rattle.single.proofs.update.update.Tie as tie
+
+prior-of-requires : tie.Need-prior-of-requires
+prior-of-requires c κs = search needs
+
+measure-requires : tie.Need-measure-requires
+measure-requires c κs = search needs
+
+correct-requires : tie.Need-correct-requires
+correct-requires c κs = search needs
+
+move-state-requires : tie.Need-move-state-requires
+move-state-requires c κs = search needs
+
+has-nan-requires : tie.Need-has-nan-requires
+has-nan-requires c κs = search needs
+
+returns : tie.Need-returns
+returns c = search needs
+
+enter-requires : tie.Need-enter-requires
+enter-requires c κs = search needs
+
+settle-at-requires : tie.Need-settle-at-requires
+settle-at-requires c κs = search needs
+
+same-length : tie.Need-same-length
+same-length c = search needs
+
+returns-2 : tie.Need-returns-2
+unfolding takesGain
+returns-2 c =
+    let g = c .before .before .before .before .before .before .before in
+    let k = g .before .before .before .correct in
+    let a = g .before .before .before .before .before .before .before .before .before .args in
+    let h = k .ensures (c .before .before .before .before .before .before .if2 .taken) in
+    made (a .h .ekf) (joined (a .h .halves)) (a .w .now) (a .re) (a .im) _ (g .before .before .before .before .measure .result) _ _ (gains (k .result .k)) _ (joined (k .result .halves)) _ _
+    (g .before .before .before .before .before .prior-of .ensures) (g .before .before .before .before .measure .ensures)
+    (c .before .before .before .before .enter .ensures) (h .0) (h .1) (g .before .before .move-state .ensures) (g .before .has-nan .ensures) (g .if1 .left) (h .2)
+    (c .before .settle-at .ensures)
+
+returns-3 : tie.Need-returns-3
+returns-3 c = search needs
+
+pub update-spec : {M : Type 1} → statement M
+update-spec =
+    tie.close
+    (tie.spec
+    prior-of-requires
+    measure-requires
+    correct-requires
+    move-state-requires
+    has-nan-requires
+    returns
+    enter-requires
+    settle-at-requires
+    same-length
+    returns-2
+    returns-3)

@@ -1,0 +1,84 @@
+// One update by a sample.
+ghost use mathlib.Core.Path.{_≡_};
+ghost use mathlib.Core.Bool.{cond};
+ghost use lib.ListN.{length};
+ghost use Rattle.covariance.specs.Correction.{correctedState};
+ghost use Rattle.tracker.specs.Correction.{wrappedPhase, limited};
+ghost use Rattle.tracker.specs.State.{withState};
+ghost use Rattle.tracker.specs.Lock.{settled};
+ghost use Rattle.tracker.specs.Update.{updated};
+ghost use Rattle.power_ratio.specs.PowerRatio.{ratio};
+ghost use Rattle.halves.specs.Joined.{joined, gains};
+ghost use Rattle.single.specs.Whole.{whole};
+use crate::sample::enter;
+use crate::sample::measure;
+use crate::state::Single;
+use crate::state::Updated;
+use covariance::states::Channel;
+use covariance::states::correct_state;
+use halves::correction::correct;
+use halves::half::Gain;
+use measurement::modulation::Modulation;
+use power_ratio::ratio_of;
+use tracker::correction::has_nan;
+use tracker::correction::limit;
+use tracker::correction::prior_of;
+use tracker::correction::wrap_phase;
+use tracker::lock::settle;
+use tracker::state::CarrierPllEkf;
+
+// The states moved by the gain, the phase wrapped.
+fn move_state(x: [f64; 6], k: Gain, z: f64, m: Modulation) -> [f64; 6]
+    ensures { λ r. ⌜ r ≡ wrappedPhase (correctedState x (gains k) z) 0 m ⌝ }
+{
+    let g = [k.p, k.f, k.c, 0.0, 0.0, 0.0];
+    let y = correct_state(x, g, z);
+    wrap_phase(y, Channel::First, m)
+}
+
+// The tracker at the states v, within their limits, and its lock.
+fn settle_at(t: CarrierPllEkf, v: [f64; 6], norm_re: f64) -> CarrierPllEkf
+    ensures { λ r. ⌜ r ≡ settled (withState t (limited v 0)) «norm_re» (ratio (t .«pr_sum_abs_i») (t .«pr_sum_q_sq»)) ⌝ }
+{
+    let pr = ratio_of(t.pr_sum_abs_i, t.pr_sum_q_sq);
+    let x = limit(v, Channel::First);
+    let mut u = t;
+    u.x = x;
+    settle(u, norm_re, pr)
+}
+
+// One sample. Where a number gets so large that the halves would not stay apart, or a NaN comes up, nothing is done.
+pub fn update(h: Single, w: &mut [f64], re: f32, im: f32) -> Updated
+    requires { ⌜ length (now w) ≡ 2048 ⌝ }
+    ensures { λ r. ⌜ (whole (r .tracker), now (w .exit)) ≡ cond (r .made) (updated (h .ekf) (joined (h .halves)) (now (w .entry)) re im) (whole h, now (w .entry)) ⌝ }
+{
+    let t = h.ekf;
+    let x = t.x;
+    let kind = t.modulation;
+    let prior = prior_of(t, Channel::First);
+    let m = measure(prior, re, im);
+    let c = correct(h.halves, m.r_effective);
+    let v = move_state(x, c.k, m.z, kind);
+    if has_nan(v) {
+        return Updated {
+            made: false,
+            tracker: h,
+        };
+    }
+    if c.apart {
+        let mut e = t;
+        e.envelope_ema = m.envelope_ema;
+        let u = enter(e, w, m.abs_i, m.q_sq);
+        let s = settle_at(u, v, m.norm_re);
+        let q = c.halves;
+        let r = Single { ekf: s, halves: q };
+        return Updated {
+            made: true,
+            tracker: r,
+        };
+    }
+    Updated {
+        made: false,
+        tracker: h,
+    }
+}

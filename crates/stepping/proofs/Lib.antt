@@ -1,0 +1,4 @@
+-- What the proofs of the crate's functions cite, on plain values.
+pub mod FirstPhase
+pub mod SecondSteps
+pub mod EitherUpdate
