@@ -1,2 +1,3 @@
 -- What the proofs of the functions cite, on plain values.
+pub mod MeasuredParts
 pub mod UpdateLaws

@@ -1,2 +1,3 @@
 -- A one-frequency tracker with its covariance in two halves.
 pub mod Whole
+pub mod Parts

@@ -1,17 +1,18 @@
-// What a sample says, and its place in the window. Both are in the crates below, too; here each has one caller.
+// What a sample says, in two parts, so that the covariance is corrected while the first angle is computed; and its place in the window.
+// All of it is in the crates below, too; here each function has one caller.
 ghost use mathlib.Core.Path.{_≡_};
 ghost use lib.ListN.{length};
 ghost use Rattle.covariance.specs.declared.states.Channel.the-variants.{First};
-ghost use Rattle.measurement.specs.Measurement.{measured};
 ghost use Rattle.tracker.specs.Correction.{windowed};
+ghost use Rattle.single.specs.Parts.{received, detected};
 use ieee754::sign::abs;
-use measurement::angle::in_phase;
 use measurement::angle::phase_error;
-use measurement::measure::Measured;
 use measurement::measure::Prior;
+use measurement::modulation::Modulation;
 use measurement::modulation::wrap;
 use measurement::noise::effective_noise;
 use measurement::noise::envelope_of;
+use measurement::sample::Point;
 use measurement::sample::amplitude_of;
 use measurement::sample::derotate;
 use measurement::sample::fold;
@@ -20,27 +21,49 @@ use power_ratio::PowerSums;
 use power_ratio::push;
 use tracker::state::CarrierPllEkf;
 
-pub fn measure(prior: Prior, re: f32, im: f32) -> Measured
-    ensures { λ r. ⌜ r ≡ measured prior re im ⌝ }
+// The sample turned back by the predicted phase; the envelope with the sample in it; R, the variance that it is measured with.
+pub struct Received {
+    pub point: Point,
+    pub envelope_ema: f64,
+    pub r_effective: f64,
+}
+
+pub fn receive(prior: Prior, re: f32, im: f32) -> Received
+    ensures { λ r. ⌜ r ≡ received prior re im ⌝ }
 {
     let m = prior.modulation;
     let s = used_sample(m, re, im);
-    let d = derotate(prior.theta_pred, s);
+    let point = derotate(prior.theta_pred, s);
     let amp = amplitude_of(s);
     let env = envelope_of(prior.envelope_ema, amp);
     let r_effective = effective_noise(prior.r_meas, prior.lock_metric, amp, env);
-    let error = phase_error(m, d);
-    let z = wrap(m, error);
-    let norm_re = in_phase(m, error);
-    let n = fold(m, d);
-    let abs_i = abs(n.re);
-    Measured {
-        z,
-        norm_re,
-        abs_i,
-        q_sq: n.im * n.im,
+    Received {
+        point,
         envelope_ema: env,
         r_effective,
+    }
+}
+
+// What the phase detector gives: the phase error, and wrapped, the innovation; the pair for the power ratio.
+pub struct Detected {
+    pub error: f64,
+    pub z: f64,
+    pub abs_i: f64,
+    pub q_sq: f64,
+}
+
+pub fn detect(m: Modulation, point: Point) -> Detected
+    ensures { λ r. ⌜ r ≡ detected m point ⌝ }
+{
+    let error = phase_error(m, point);
+    let z = wrap(m, error);
+    let n = fold(m, point);
+    let abs_i = abs(n.re);
+    Detected {
+        error,
+        z,
+        abs_i,
+        q_sq: n.im * n.im,
     }
 }
 

@@ -10,14 +10,16 @@ ghost use Rattle.tracker.specs.Update.{updated};
 ghost use Rattle.power_ratio.specs.PowerRatio.{ratio};
 ghost use Rattle.halves.specs.Joined.{joined, gains};
 ghost use Rattle.single.specs.Whole.{whole};
+use crate::sample::detect;
 use crate::sample::enter;
-use crate::sample::measure;
+use crate::sample::receive;
 use crate::state::Single;
 use crate::state::Updated;
 use covariance::states::Channel;
 use covariance::states::correct_state;
 use halves::correction::correct;
 use halves::half::Gain;
+use measurement::angle::in_phase;
 use measurement::modulation::Modulation;
 use power_ratio::ratio_of;
 use tracker::correction::has_nan;
@@ -47,7 +49,9 @@ fn settle_at(t: CarrierPllEkf, v: [f64; 6], norm_re: f64) -> CarrierPllEkf
     settle(u, norm_re, pr)
 }
 
-// One sample. Where a number gets so large that the halves would not stay apart, or a NaN comes up, nothing is done.
+// One sample. Where a number gets so large that the halves would not stay apart, or a NaN comes up, nothing is done. The order is for speed:
+// the covariance is corrected before the phase error is asked for, and the in-phase value, for which no state waits, comes last, so that the
+// next sample's angle is computed beside it.
 pub fn update(h: Single, w: &mut [f64], re: f32, im: f32) -> Updated
     requires { ⌜ length (now w) ≡ 2048 ⌝ }
     ensures { λ r. ⌜ (whole (r .tracker), now (w .exit)) ≡ cond (r .made) (updated (h .ekf) (joined (h .halves)) (now (w .entry)) re im) (whole h, now (w .entry)) ⌝ }
@@ -56,9 +60,10 @@ pub fn update(h: Single, w: &mut [f64], re: f32, im: f32) -> Updated
     let x = t.x;
     let kind = t.modulation;
     let prior = prior_of(t, Channel::First);
-    let m = measure(prior, re, im);
-    let c = correct(h.halves, m.r_effective);
-    let v = move_state(x, c.k, m.z, kind);
+    let a = receive(prior, re, im);
+    let c = correct(h.halves, a.r_effective);
+    let d = detect(kind, a.point);
+    let v = move_state(x, c.k, d.z, kind);
     if has_nan(v) {
         return Updated {
             made: false,
@@ -67,9 +72,10 @@ pub fn update(h: Single, w: &mut [f64], re: f32, im: f32) -> Updated
     }
     if c.apart {
         let mut e = t;
-        e.envelope_ema = m.envelope_ema;
-        let u = enter(e, w, m.abs_i, m.q_sq);
-        let s = settle_at(u, v, m.norm_re);
+        e.envelope_ema = a.envelope_ema;
+        let u = enter(e, w, d.abs_i, d.q_sq);
+        let norm_re = in_phase(kind, d.error);
+        let s = settle_at(u, v, norm_re);
         let q = c.halves;
         let r = Single { ekf: s, halves: q };
         return Updated {
