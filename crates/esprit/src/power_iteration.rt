@@ -50,7 +50,7 @@ fn norm_of(w: &[f64; 20]) -> f64
         s = s + sums::complex::norm_sqr(w[q], w[q + 1]);
         i += 1;
     }
-    ieee754::square_root::sqrt(s)
+    roots::square_root::sqrt(s)
 }
 
 fn divided(w: &[f64; 20], d: f64) -> [f64; 20]

@@ -39,19 +39,19 @@ pub extern "C" fn gibsumac_log10(x: f64) -> f64
 pub extern "C" fn gibsumac_hypot(x: f64, y: f64) -> f64
     ensures { λ r. ⌜ r ≡ hypotenuse x y ⌝ }
 {
-    ieee754::hypotenuse::hypot(x, y)
+    roots::hypotenuse::hypot(x, y)
 }
 
 #[no_mangle]
 pub extern "C" fn gibsumac_hypotf(x: f32, y: f32) -> f32
     ensures { λ r. ⌜ r ≡ hypotenuseAt binary32 x y ⌝ }
 {
-    ieee754::hypotenuse::hypotf(x, y)
+    roots::hypotenuse::hypotf(x, y)
 }
 
 #[no_mangle]
 pub extern "C" fn gibsumac_sqrt(x: f64) -> f64
     ensures { λ r. ⌜ r ≡ sqrt binary64 x ⌝ }
 {
-    ieee754::square_root::sqrt(x)
+    roots::square_root::sqrt(x)
 }

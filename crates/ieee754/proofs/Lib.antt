@@ -2,7 +2,6 @@
 pub mod Patterns
 pub mod Fields
 pub mod IntegerRoot
-pub mod RootDigits
 pub mod SquareRootCases
 pub mod NearestRoot
 pub mod SignCases
@@ -10,4 +9,3 @@ pub mod SizeBits
 pub mod TruncationCases
 pub mod RoundAwayCases
 pub mod ConversionCases
-pub mod ShortRootCases

@@ -3,8 +3,8 @@ ghost use mathlib.Core.Path.{_≡_};
 ghost use Rattle.measurement.specs.Sample.{point, used, derotated, amplitude, folded, diagonals};
 use crate::modulation::Modulation;
 use ieee754::conversion::f32_to_f64;
-use ieee754::hypotenuse::hypot;
 use ieee754::sign::abs;
+use roots::hypotenuse::hypot;
 
 // A complex number.
 pub struct Point {

@@ -9,7 +9,7 @@ pub struct Pair(pub f32, pub f32);
 pub fn unit_of(re: f32, im: f32) -> Pair
     ensures { λ r. ⌜ (r .0, r .1) ≡ unit (re, im) ⌝ }
 {
-    let size = ieee754::hypotenuse::hypotf(re, im);
+    let size = roots::hypotenuse::hypotf(re, im);
     if 0.000001 < size {
         return Pair(re / size, im / size);
     }

@@ -37,7 +37,7 @@ fn signal_power(m2: f64, m4: f64) -> f64
 {
     let v = 2.0 * m2 * m2 - m4;
     if v > 0.0 {
-        return ieee754::square_root::sqrt(v);
+        return roots::square_root::sqrt(v);
     }
     0.0
 }
