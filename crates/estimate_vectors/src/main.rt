@@ -5,18 +5,8 @@
 use ieee754::pattern::f64_from_bits;
 use ieee754::pattern::f64_to_bits;
 use libc::STDOUT_FILENO;
-
-// The next number, as an f64.
-fn next_f64() -> f64 {
-    let w = vectors::next_word();
-    f64_from_bits(w.value)
-}
-
-// Whether x has the bits that come next.
-fn is_next(x: f64) -> bool {
-    let w = vectors::next_word();
-    f64_to_bits(x) == w.value
-}
+use vectors::numbers::is_next;
+use vectors::numbers::next_f64;
 
 fn estimate_holds(squared: bool) -> bool {
     let rate = next_f64();

@@ -2,53 +2,17 @@
 // with its kind; reference/vectors makes them, and reference/README.md has the fields of each kind. The number of each vector that differs is
 // printed.
 use covariance::states::Channel;
-use ieee754::pattern::f32_from_bits;
-use ieee754::pattern::f64_from_bits;
-use ieee754::pattern::f64_to_bits;
 use libc::STDOUT_FILENO;
 use measurement::modulation::Modulation;
 use tracker::correction::Correction;
 use tracker::state::CarrierPllEkf;
-
-fn next_whole() -> u64 {
-    let w = vectors::next_word();
-    w.value
-}
-
-fn next_f64() -> f64 {
-    let w = vectors::next_word();
-    f64_from_bits(w.value)
-}
-
-fn next_f32() -> f32 {
-    let w = vectors::next_word();
-    f32_from_bits((w.value % 0x1_0000_0000) as u32)
-}
-
-fn next_six() -> [f64; 6] {
-    let mut x = [0.0; 6];
-    for i in 0..6 {
-        x[i] = next_f64();
-    }
-    x
-}
-
-fn next_matrix() -> [f64; 36] {
-    let mut p = [0.0; 36];
-    for i in 0..36 {
-        p[i] = next_f64();
-    }
-    p
-}
-
-// Whether what comes next is x.
-fn is_next(x: f64) -> bool {
-    f64_to_bits(x) == next_whole()
-}
-
-fn is_next_whole(n: u64) -> bool {
-    n == next_whole()
-}
+use vectors::numbers::is_next;
+use vectors::numbers::is_next_whole;
+use vectors::numbers::next_f32;
+use vectors::numbers::next_f64;
+use vectors::numbers::next_matrix;
+use vectors::numbers::next_six;
+use vectors::numbers::next_whole;
 
 fn six_are_next(x: [f64; 6]) -> bool {
     let mut ok = true;
