@@ -8,9 +8,10 @@ use lib.ListN.{getD}
 use lib.Ieee.{Float, nan}
 use Rattle.measurement.specs.declared.modulation.Modulation.{Modulation}
 use Rattle.measurement.specs.declared.modulation.Modulation.the-variants.{Carrier, Bpsk, Qpsk}
+use Rattle.measurement.specs.Numbers.{modulationNumber}
 use Rattle.tracker.specs.declared.state.CarrierPllEkf.{CarrierPllEkf}
 use Rattle.tracker.specs.declared.state.Tracked.{Tracked}
-use Rattle.alike.specs.Alike.{floatsOf, countsOf, switchesOf, numberOf}
+use Rattle.alike.specs.Alike.{floatsOf, countsOf, switchesOf}
 
 pub same-marks : (a b : Bool) → a ≡ true → b ≡ true → a ≡ b
 same-marks a b h k = h ∙ sym k
@@ -19,7 +20,7 @@ pub same-no-marks : (a b : Bool) → a ≡ false → not b ≡ true → a ≡ b
 same-no-marks a false h k = h
 same-no-marks a true h k = absurd (true≢false (sym k))
 
-pub same-number : (a b : Modulation) → numberOf a ≡ numberOf b → a ≡ b
+pub same-number : (a b : Modulation) → modulationNumber a ≡ modulationNumber b → a ≡ b
 same-number Carrier Carrier h = refl
 same-number Bpsk Bpsk h = refl
 same-number Qpsk Qpsk h = refl

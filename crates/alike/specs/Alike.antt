@@ -6,13 +6,11 @@ use mathlib.Core.Path.{_≡_}
 use mathlib.Core.List.{List, [], _∷_}
 use lib.Ieee.{Float}
 use Rattle.sequences.specs.Stretches.{stretch, within}
-use Rattle.measurement.specs.declared.modulation.Modulation.{Modulation}
-use Rattle.measurement.specs.declared.modulation.Modulation.the-variants.{Carrier, Bpsk, Qpsk}
 use Rattle.tracker.specs.declared.state.CarrierPllEkf.{CarrierPllEkf}
 use Rattle.tracker.specs.declared.state.Tracked.{Tracked}
 use Rattle.tracking.specs.Following.{Held}
 
--- the parts of a tracker besides its states: floats, counts, marks, and a number for its modulation
+-- the parts of a tracker besides its states and its modulation: floats, counts, marks
 abbrev pub floatsOf : CarrierPllEkf → List Float
 floatsOf t =
     t .«q_phase» ∷ t .«q_freq» ∷ t .«q_chirp» ∷ t .«r_meas» ∷ t .ts ∷ t .«lock_metric» ∷ t .«envelope_ema» ∷ t .«pr_sum_abs_i»
@@ -23,11 +21,6 @@ countsOf t = (t .«pr_pushed», t .«convergence_guard»)
 
 abbrev pub switchesOf : CarrierPllEkf → Bool × Bool × Bool
 switchesOf t = (t .«is_locked», t .«adaptive_ekf», t .«dual_lock»)
-
-abbrev pub numberOf : Modulation → ℕ
-numberOf Carrier = 0
-numberOf Bpsk = 1
-numberOf Qpsk = 2
 
 -- the stretches of the three trackers are equal
 pub record Level (w : List Float) : Type 0 where

@@ -1,23 +1,14 @@
 // Trackers that are equal in every field, with their covariances.
 ghost use mathlib.Core.Path.{_≡_};
 ghost use mathlib.Core.Bool.{true};
-ghost use Rattle.alike.specs.Alike.{numberOf, floatsOf, countsOf, switchesOf};
+ghost use Rattle.alike.specs.Alike.{floatsOf, countsOf, switchesOf};
 use crate::numbers::same_covariances;
 use crate::numbers::same_states;
 use crate::numbers::same_stretches;
 use measurement::modulation::Modulation;
+use measurement::modulation::modulation_number;
 use tracker::state::CarrierPllEkf;
 use tracker::state::Tracked;
-
-fn number_of(m: Modulation) -> usize
-    ensures { λ r. ⌜ r ≡ numberOf m ⌝ }
-{
-    match m {
-        Modulation::Carrier => 0,
-        Modulation::Bpsk => 1,
-        Modulation::Qpsk => 2,
-    }
-}
 
 fn same_bool(a: bool, b: bool) -> bool
     ensures { λ r. ⌜ (r ≡ true → a ≡ b) ⌝ }
@@ -31,8 +22,8 @@ fn same_bool(a: bool, b: bool) -> bool
 fn same_modulation(a: Modulation, b: Modulation) -> bool
     ensures { λ r. ⌜ (r ≡ true → a ≡ b) ⌝ }
 {
-    let x = number_of(a);
-    let y = number_of(b);
+    let x = modulation_number(a);
+    let y = modulation_number(b);
     x == y
 }
 

@@ -8,7 +8,8 @@ use Rattle.channel_model.specs.declared.Status.the-variants.{Idle, Assigned}
 use Rattle.channel_model.specs.declared.Channel.{Channel}
 use Rattle.channel_model.specs.Opening.{modulationOf}
 use Rattle.channel_model.specs.Assigning.{idle}
-use Rattle.interchange.specs.Trackers.{modulationNumber, plainTracker, realTracker, realWith}
+use Rattle.measurement.specs.Numbers.{modulationNumber}
+use Rattle.interchange.specs.Trackers.{plainTracker, realTracker, realWith}
 use Rattle.interchange.specs.Channels.{plainChannel, realChannel, statusOf, realChannelWith}
 
 modulation-back : (m : Modulation) → modulationOf (modulationNumber m) ≡ m

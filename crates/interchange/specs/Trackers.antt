@@ -1,16 +1,10 @@
 -- A tracker in C's layout, and back. The modulation goes by 01's numbers. Definitions only.
 use Prim.Native.Nat.{ℕ}
 use Rattle.measurement.specs.declared.modulation.Modulation.{Modulation}
-use Rattle.measurement.specs.declared.modulation.Modulation.the-variants.{Carrier, Bpsk, Qpsk}
+use Rattle.measurement.specs.Numbers.{modulationNumber}
 use Rattle.tracker.specs.declared.state.Tracked.{Tracked}
 use Rattle.channel_model.specs.Opening.{modulationOf}
 use Rattle.interchange.specs.declared.plain_tracker.PlainTracker.{PlainTracker}
-
--- 0 carrier, 1 BPSK, 2 QPSK
-abbrev pub modulationNumber : Modulation → ℕ
-modulationNumber Carrier = 0
-modulationNumber Bpsk = 1
-modulationNumber Qpsk = 2
 
 -- with the number n for its modulation
 abbrev pub plainWith : Tracked → ℕ → PlainTracker

@@ -1,7 +1,7 @@
 // A tracker in the layout of C.
 ghost use mathlib.Core.Path.{_≡_};
-ghost use Rattle.interchange.specs.Trackers.{modulationNumber, plainTracker, realTracker};
-use measurement::modulation::Modulation;
+ghost use Rattle.interchange.specs.Trackers.{plainTracker, realTracker};
+use measurement::modulation::modulation_number;
 use opening::modulation_of;
 use tracker::state::CarrierPllEkf;
 use tracker::state::Tracked;
@@ -26,16 +26,6 @@ pub struct PlainTracker {
     pub is_locked: bool,
     pub adaptive_ekf: bool,
     pub dual_lock: bool,
-}
-
-fn modulation_number(m: Modulation) -> u64
-    ensures { λ r. ⌜ r ≡ modulationNumber m ⌝ }
-{
-    match m {
-        Modulation::Carrier => 0,
-        Modulation::Bpsk => 1,
-        Modulation::Qpsk => 2,
-    }
 }
 
 pub fn to_plain(h: Tracked) -> PlainTracker

@@ -2,6 +2,7 @@
 ghost use mathlib.Core.Path.{_≡_};
 ghost use lib.Ieee.{binary64};
 ghost use Rattle.ieee754.specs.Remainder.{remEuclid};
+ghost use Rattle.measurement.specs.Numbers.{modulationNumber};
 ghost use Rattle.measurement.specs.Phase.{limit, halfLimit, wrapped};
 use ieee754::remainder::rem_euclid;
 
@@ -9,6 +10,17 @@ pub enum Modulation {
     Carrier,
     Bpsk,
     Qpsk,
+}
+
+// The scope's number.
+pub fn modulation_number(m: Modulation) -> u64
+    ensures { λ r. ⌜ r ≡ modulationNumber m ⌝ }
+{
+    match m {
+        Modulation::Carrier => 0,
+        Modulation::Bpsk => 1,
+        Modulation::Qpsk => 2,
+    }
 }
 
 // The length of the range.
