@@ -1,199 +1,142 @@
 // A bank's fade: the block in which the lock goes, the blocks within, the end, and what follows it.
-use crate::calls::ONE;
-use crate::calls::TARGET;
-use crate::calls::assigned;
-use crate::calls::empty;
-use crate::calls::kept;
-use crate::calls::lose;
-use crate::calls::marks_are;
-use crate::calls::pair;
-use crate::calls::values_are;
-use crate::report::say;
-use channel_model::Answer;
-use channel_model::Blocked;
-use channel_model::Channel;
-use tracker::state::Tracked;
+use channel_script::answers::ONE;
+use channel_script::answers::kept;
+use channel_script::answers::marks_are;
+use channel_script::answers::values_are;
+use channel_script::report::say;
+use channel_script::session::BANK;
+use channel_script::session::TARGET;
+use channel_script::session::View;
+use channel_script::session::seen;
+use channel_script::session::seen_of;
+use channel_script::session::settings;
 
-// Locked in a bank whose fade lasts so many blocks, then every lock lost.
-fn faded(steps: u64) -> Blocked {
-    let b = pair(assigned(true, steps), 1, 0.0, 1.0);
-    lose(b.channel)
+// What is seen of a bank whose fade lasts so many blocks.
+fn seen_in(steps: u64, script: &[u8]) -> View {
+    seen_of(settings(BANK, steps), script)
 }
 
 // In a fade: locked, tracker 0, this count; phase and metric are the tracker's, which is unlocked.
-fn fades(b: Blocked, count: u64) -> bool {
-    let t = b.channel.bank.t0.ekf;
-    let x = t.x;
-    let a = b.answer;
+fn is_fading(v: View, count: u64) -> bool {
+    let a = v.answer;
     marks_are(a, true, 0, true, count, false)
-        & (a.phase == x[0])
-        & (a.metric == t.lock_metric)
+        & (a.phase == v.t0.phase)
+        & (a.metric == v.t0.metric)
         & (a.metric != 0.0)
-        & !t.is_locked
+        & !v.t0.locked
 }
 
-// Flag 0: no tracker in use and no fade, but the count stays.
-fn silenced(b: Blocked) -> bool {
-    let d = empty(b.channel, 0);
-    let a = d.answer;
-    marks_are(a, false, 3, false, 1, false)
-        & (a.snr == -20.0)
-        & (a.metric == 0.0)
-        & kept(a, b.answer)
+fn fades(steps: u64, script: &[u8], count: u64) -> bool {
+    is_fading(seen_in(steps, script), count)
 }
 
-// Flags 2, 3 and 4: not locked and yet in fade.
-fn muted(b: Blocked, flag: u64, snr: f64) -> bool {
-    let d = empty(b.channel, flag);
-    let a = d.answer;
-    marks_are(a, false, 0, true, 1, false) & (a.snr == snr) & (a.metric == 0.0) & kept(a, b.answer)
+// The lock goes: the SNR is the block's own.
+fn begins() -> bool {
+    let v = seen(BANK, b"aqj");
+    is_fading(v, 1) & (v.answer.snr == 40.0)
 }
 
 // Flag 1: one block further, the metric stands still.
-fn goes_further(b: Blocked) -> bool {
-    let d = pair(b.channel, 1, 1.0, 0.0);
-    fades(d, 2) & (d.answer.metric == b.answer.metric)
+fn goes_further() -> bool {
+    let v = seen(BANK, b"aqjc");
+    is_fading(v, 2) & (v.answer.metric == v.before.metric)
 }
 
 // Only the tracker in use is predicted, and not before the block after the loss: until then all three are equal.
-fn predicts_active(b: Blocked) -> bool {
-    let before = b.channel.bank;
-    let d = pair(b.channel, 1, 1.0, 0.0);
-    let after = d.channel.bank;
-    let x0 = before.t0.ekf.x;
-    let x1 = before.t1.ekf.x;
-    let y0 = after.t0.ekf.x;
-    let y1 = after.t1.ekf.x;
-    let y2 = after.t2.ekf.x;
-    (x0[0] == x1[0]) & (y0[0] != x0[0]) & (y1[0] == x1[0]) & (y2[0] == y1[0])
+fn predicts_active() -> bool {
+    let v = seen(BANK, b"aqj");
+    let w = seen(BANK, b"aqjc");
+    (v.t0.phase == v.t1.phase)
+        & (w.t0.phase != v.t0.phase)
+        & (w.t1.phase == v.t1.phase)
+        & (w.t2.phase == w.t1.phase)
 }
 
-// The fade with its tracker at phase 0 and 100 Hz.
-fn at_100_hz(b: Blocked) -> Channel {
-    let mut t = b.channel.bank.t0.ekf;
-    let p = b.channel.bank.t0.p;
-    t.x = [0.0, 628.3185307179587, 0.0, 0.0, 0.0, 0.0];
-    let t0 = Tracked { ekf: t, p };
-    let mut k = b.channel.bank;
-    k.t0 = t0;
-    let mut c = b.channel;
-    c.bank = k;
-    c
+// Another flag in the fade's first block: not locked, its count stays, and so do phase and frequency.
+fn muted(script: &[u8], tracker: u64, in_fade: bool, snr: f64) -> bool {
+    let v = seen(BANK, script);
+    let a = v.answer;
+    marks_are(a, false, tracker, in_fade, 1, false)
+        & (a.snr == snr)
+        & (a.metric == 0.0)
+        & kept(a, v.before)
 }
 
-// The phase is not wrapped in a fade: 4,096 samples at 40,000 a second are 10.24 turns, 64.34 radians.
-fn not_wrapped(b: Blocked) -> bool {
-    let d = lose(at_100_hz(b));
-    let phase = d.answer.phase;
-    fades(d, 2) & (64.33 < phase) & (phase < 64.35)
-}
-
-// A fade goes on after a clipped block, since the SNR before it was not negative.
-fn goes_on_after_3(b: Blocked) -> bool {
-    let d = empty(b.channel, 3);
-    let e = pair(d.channel, 1, 1.0, 0.0);
-    fades(e, 2)
-}
-
-// A block of SNR -20, then a clipped one: the next may start, although in fade.
-fn may_start(b: Blocked) -> Channel {
-    let d = empty(b.channel, 1);
-    let e = empty(d.channel, 3);
-    e.channel
-}
-
-// A start inside a fade ends it.
-fn starts_inside(b: Blocked) -> bool {
-    let e = pair(may_start(b), 1, 1.0, 0.0);
-    marks_are(e.answer, true, 0, false, 0, false) & values_are(e.answer, 0.0, TARGET, 40.0, ONE)
-}
-
-// If that lock is lost in the same block the count goes on, from 2 to 3.
-fn starts_inside_and_loses(b: Blocked) -> bool {
-    let e = lose(may_start(b));
-    fades(e, 3)
-}
-
+// Flag 0: no tracker in use and no fade. Flags 2, 3 and 4: not locked and yet in fade.
 fn run_fading() {
-    let b = faded(5);
     let holds = [
-        fades(b, 1) & (b.answer.snr == 40.0),
-        silenced(b),
-        goes_further(b),
-        predicts_active(b),
-        not_wrapped(b),
-        muted(b, 2, 0.0),
-        muted(b, 3, 0.5),
-        muted(b, 4, -5.0),
-        goes_on_after_3(b),
-        starts_inside(b),
-        starts_inside_and_loses(b),
+        begins(),
+        muted(b"aqj0", 3, false, -20.0),
+        goes_further(),
+        predicts_active(),
+        muted(b"aqj2", 0, true, 0.0),
+        muted(b"aqj3", 0, true, 0.5),
+        muted(b"aqj4", 0, true, -5.0),
     ];
     say(b"bank, in fade", &holds);
 }
 
-// Not locked, no tracker, the count one beyond the steps, ended.
-fn is_ended(a: Answer, count: u64, snr: f64) -> bool {
+// Locked at phase 0 and the target after one sample.
+fn starts(steps: u64, script: &[u8], ended: bool) -> bool {
+    let v = seen_in(steps, script);
+    marks_are(v.answer, true, 0, false, 0, ended) & values_are(v.answer, 0.0, TARGET, 40.0, ONE)
+}
+
+// A fade goes on after a clipped block, since the SNR before it was not negative. After a block of SNR -20 and a clipped one the next may start,
+// although in fade: a start ends the fade, and if its lock is lost in the same block the count goes on, from 2 to 3.
+fn run_starting() {
+    let holds = [
+        fades(5, b"aqj3c", 2),
+        starts(5, b"aqj13c", false),
+        fades(5, b"aqj13j", 3),
+    ];
+    say(b"bank, a start in a fade", &holds);
+}
+
+// Not locked, no tracker, the count one beyond the steps, ended; phase and frequency of the block before.
+fn ends(steps: u64, script: &[u8], count: u64, snr: f64) -> bool {
+    let v = seen_in(steps, script);
+    let a = v.answer;
     marks_are(a, false, 3, false, count, true)
         & (a.snr == snr)
         & (a.electrons == 0.0)
         & (a.metric == 0.0)
+        & kept(a, v.before)
 }
 
-// A fade of two steps: counts 1 and 2, and the third block ends it with the phase and frequency of the second.
-fn ends_after_two() -> bool {
-    let b1 = faded(2);
-    let b2 = pair(b1.channel, 1, 1.0, 0.0);
-    let b3 = pair(b2.channel, 1, 1.0, 0.0);
-    fades(b1, 1) & fades(b2, 2) & is_ended(b3.answer, 3, 40.0) & kept(b3.answer, b2.answer)
-}
-
-// A fade of no steps ends in the block in which it begins.
-fn ends_at_once() -> bool {
-    let b = pair(assigned(true, 0), 1, 0.0, 1.0);
-    let d = lose(b.channel);
-    is_ended(d.answer, 1, 40.0) & kept(d.answer, b.answer)
-}
-
-// The channel after a fade of no steps.
-fn ended() -> Blocked {
-    faded(0)
-}
-
-fn stays_ended(b: Blocked, flag: u64, snr: f64) -> bool {
-    let d = empty(b.channel, flag);
-    is_ended(d.answer, 1, snr) & kept(d.answer, b.answer)
-}
-
-// Flag 1 starts, although the SNR was not negative: count 0, and ended stays.
-fn starts_again(b: Blocked) -> bool {
-    let d = pair(b.channel, 1, 1.0, 0.0);
-    marks_are(d.answer, true, 0, false, 0, true) & values_are(d.answer, 0.0, TARGET, 40.0, ONE)
+// A fade of two steps: counts 1 and 2, and the third block ends it. A fade of no steps ends in the block in which it begins.
+fn run_ending() {
+    let holds = [
+        fades(2, b"aqj", 1),
+        fades(2, b"aqjc", 2),
+        ends(2, b"aqjcc", 3, 40.0),
+        ends(0, b"aqj", 1, 40.0),
+    ];
+    say(b"bank, a fade ends", &holds);
 }
 
 // Flag 0 of a locked bank keeps count and ended.
-fn silence_keeps_ended(b: Blocked) -> bool {
-    let d = pair(b.channel, 1, 1.0, 0.0);
-    let e = empty(d.channel, 0);
-    marks_are(e.answer, false, 3, false, 0, true)
+fn silence_keeps_ended() -> bool {
+    let v = seen_in(0, b"aqjc0");
+    marks_are(v.answer, false, 3, false, 0, true)
 }
 
+// Flag 1 starts, although the SNR was not negative: count 0, and ended stays.
 fn run_ended() {
-    let b = ended();
     let holds = [
-        ends_after_two(),
-        ends_at_once(),
-        stays_ended(b, 0, -20.0),
-        starts_again(b),
-        silence_keeps_ended(b),
-        stays_ended(b, 2, 0.0),
-        stays_ended(b, 3, 0.5),
-        stays_ended(b, 4, -5.0),
+        ends(0, b"aqj0", 1, -20.0),
+        starts(0, b"aqjc", true),
+        silence_keeps_ended(),
+        ends(0, b"aqj2", 1, 0.0),
+        ends(0, b"aqj3", 1, 0.5),
+        ends(0, b"aqj4", 1, -5.0),
     ];
     say(b"bank, fade ended", &holds);
 }
 
 pub fn run() {
     run_fading();
+    run_starting();
+    run_ending();
     run_ended();
 }

@@ -1,59 +1,67 @@
 // Idle, opened or released: not locked, SNR 0 with every flag, all else as it was.
-use crate::calls::assigned;
-use crate::calls::empty;
-use crate::calls::feed;
-use crate::calls::marks_are;
-use crate::calls::opened;
-use crate::calls::pair;
-use crate::calls::values_are;
-use crate::report::say;
-use channel::release::release;
-use channel_model::Blocked;
-use channel_model::Channel;
+use channel_script::answers::marks_are;
+use channel_script::answers::values_are;
+use channel_script::report::say;
+use channel_script::session::BANK;
+use channel_script::session::SINGLE;
+use channel_script::session::View;
+use channel_script::session::seen;
 
 // All fields 0, tracker 3.
-fn is_still(b: Blocked) -> bool {
-    let a = b.answer;
-    let last_snr = b.channel.last_snr;
-    marks_are(a, false, 3, false, 0, false) & values_are(a, 0.0, 0.0, 0.0, 0.0) & (last_snr == 0.0)
+fn is_still(v: View) -> bool {
+    let a = v.answer;
+    marks_are(a, false, 3, false, 0, false)
+        & values_are(a, 0.0, 0.0, 0.0, 0.0)
+        & (v.last_snr == 0.0)
 }
 
-// The list is not normalised.
-fn list_stays(c: Channel) -> bool {
-    let mut list = [0.5f32, 0.25];
-    let b = feed(c, 1, &mut list);
-    is_still(b) & (list[0] == 0.5) & (list[1] == 0.25)
+fn still(bank: bool, script: &[u8]) -> bool {
+    is_still(seen(bank, script))
 }
 
-// A channel that was locked and is released.
-fn released(bank: bool) -> Channel {
-    let c = assigned(bank, 5);
-    let b = pair(c, 1, 0.0, 1.0);
-    release(b.channel)
+// The sample (3, 4) of the last block is not normalised.
+fn sample_stays(bank: bool, script: &[u8]) -> bool {
+    let v = seen(bank, script);
+    let sample = v.sample;
+    is_still(v) & (sample[0] == 3.0) & (sample[1] == 4.0)
+}
+
+fn run_single() {
+    let holds = [
+        still(SINGLE, b"0"),
+        still(SINGLE, b"s"),
+        still(SINGLE, b"1"),
+        sample_stays(SINGLE, b"n"),
+        still(SINGLE, b"2"),
+        still(SINGLE, b"3"),
+        still(SINGLE, b"4"),
+    ];
+    say(b"idle, one tracker", &holds);
+}
+
+fn run_bank() {
+    let holds = [
+        still(BANK, b"0"),
+        sample_stays(BANK, b"n"),
+        still(BANK, b"2"),
+        still(BANK, b"3"),
+        still(BANK, b"4"),
+    ];
+    say(b"idle, bank", &holds);
+}
+
+fn run_released() {
+    let holds = [
+        still(SINGLE, b"aqr0"),
+        sample_stays(SINGLE, b"aqrn"),
+        still(BANK, b"aqr3"),
+        sample_stays(BANK, b"aqrn"),
+    ];
+    say(b"idle, released", &holds);
 }
 
 pub fn run() {
-    let c = opened(false, 5);
-    let d = opened(true, 5);
-    let e = released(false);
-    let f = released(true);
-    let holds = [
-        is_still(empty(c, 0)),
-        is_still(pair(c, 0, 1.0, 0.0)),
-        is_still(empty(c, 1)),
-        list_stays(c),
-        is_still(empty(c, 2)),
-        is_still(empty(c, 3)),
-        is_still(empty(c, 4)),
-        is_still(empty(d, 0)),
-        list_stays(d),
-        is_still(empty(d, 2)),
-        is_still(empty(d, 3)),
-        is_still(empty(d, 4)),
-        is_still(empty(e, 0)),
-        list_stays(e),
-        is_still(empty(f, 3)),
-        list_stays(f),
-    ];
-    say(b"idle", &holds);
+    run_single();
+    run_bank();
+    run_released();
 }

@@ -1,16 +1,11 @@
-// Built cases of the channel: every flag in every state, the refusals, and the scope's values that are not proved. What is expected is written
-// by hand from the scope, not taken from the definitions. A line for each group says how many of its cases hold; the number of each case that
-// differs is printed before it, counted in the group's list.
+// Built cases of the channel: every flag in every state. What is expected is written by hand from the scope, not taken from the definitions. A
+// line for each group says how many of its cases hold; the number of each case that differs is printed before it, counted in the group's list.
 mod assigned;
 mod banked;
 mod bankless;
-mod calls;
 mod fades;
 mod idle;
-mod refusals;
 mod releases;
-mod report;
-mod rules;
 
 fn main() {
     idle::run();
@@ -18,7 +13,5 @@ fn main() {
     bankless::run();
     banked::run();
     fades::run();
-    refusals::run();
     releases::run();
-    rules::run();
 }
