@@ -1,4 +1,2 @@
--- Laws that the proofs of the calls cite.
-pub mod Assigning
-pub mod Releasing
+-- Laws that the proofs of block cite.
 pub mod BlockCases

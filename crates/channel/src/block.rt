@@ -3,7 +3,7 @@ ghost use mathlib.Core.Path.{_≡_};
 ghost use lib.ListN.{length};
 ghost use Rattle.channel_model.specs.Answers.{answerOf};
 ghost use Rattle.channel_model.specs.Blocks.{outcome, byFlag, blocked};
-use crate::assign::is_idle;
+use channel_control::assign::is_idle;
 use blocks::quiet::mute;
 use blocks::quiet::refused_answer;
 use blocks::quiet::silence;

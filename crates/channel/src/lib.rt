@@ -1,6 +1,3 @@
-// Module 9 of the scope: four of the channel's five calls, assign, block, release and figures; open is a crate of its own. No call asks
-// anything of its caller; what each means is in channel_model.
-pub mod assign;
+// Module 9 of the scope: block, the call that takes samples; open is in opening, the other three in channel_control. No call asks anything of its
+// caller; what each means is in channel_model.
 pub mod block;
-pub mod figures;
-pub mod release;

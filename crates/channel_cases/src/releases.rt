@@ -1,5 +1,5 @@
 // Release, and what stays after it.
-use channel::figures::figures;
+use channel_control::figures::figures;
 use channel_script::answers::marks_are;
 use channel_script::answers::same;
 use channel_script::answers::values_are;

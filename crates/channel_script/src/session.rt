@@ -13,9 +13,9 @@
 //     D  flag 0 with the same
 //
 // Dual lock is off where nothing else is said, so no answer reads the window memory and every block may bring fresh memory.
-use channel::assign::assign;
+use channel_control::assign::assign;
 use channel::block::block;
-use channel::release::release;
+use channel_control::release::release;
 use channel_model::Answer;
 use channel_model::Blocked;
 use channel_model::Carriers;

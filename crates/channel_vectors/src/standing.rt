@@ -1,6 +1,6 @@
 // Whether a channel stands as the Rust's does.
 use bank::state::EkfTrackingBank;
-use channel::assign::is_idle;
+use channel_control::assign::is_idle;
 use channel_model::Carriers;
 use channel_model::Channel;
 use channel_model::Reading;

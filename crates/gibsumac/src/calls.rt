@@ -59,7 +59,7 @@ pub extern "C" fn gibsumac_assign(channel: PlainChannel, carriers: Carriers) -> 
     ensures { λ r. ⌜ r ≡ plainReturned (assigned (realChannel channel) carriers) ⌝ }
 {
     let real = to_real_channel(channel);
-    let r = channel::assign::assign(real, carriers);
+    let r = channel_control::assign::assign(real, carriers);
     let c = to_plain_channel(r.channel);
     PlainReturned {
         refusal: r.refusal,
@@ -90,7 +90,7 @@ pub extern "C" fn gibsumac_release(channel: PlainChannel) -> PlainChannel
     ensures { λ r. ⌜ r ≡ plainChannel (released (realChannel channel)) ⌝ }
 {
     let real = to_real_channel(channel);
-    let released = channel::release::release(real);
+    let released = channel_control::release::release(real);
     to_plain_channel(released)
 }
 
@@ -99,6 +99,6 @@ pub extern "C" fn gibsumac_figures(channel: PlainChannel) -> TwelveFigures
     ensures { λ r. ⌜ r .values ≡ figures (realChannel channel) ⌝ }
 {
     let real = to_real_channel(channel);
-    let values = channel::figures::figures(real);
+    let values = channel_control::figures::figures(real);
     TwelveFigures { values }
 }

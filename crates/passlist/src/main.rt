@@ -5,7 +5,7 @@ ghost use Prim.Native.Nat.{_+_, _≤_};
 ghost use mathlib.Core.Path.{_≡_};
 ghost use lib.ListN.{length, take};
 ghost use Rattle.passlist.specs.Flow.{Within};
-use passrun::pass::Pass;
+use pass_setup::pass::Pass;
 
 // Where the stream stands: `left` bytes at the front of the input's buffer wait for the rest of their line, and `at` bytes of the list for a
 // write.
@@ -45,7 +45,7 @@ fn last(pass: Pass, left: usize, at: usize, buf: &[u8], out: &mut [u8]) -> Flow
     requires { ⌜ at + 135 ≤ length (now out) ⌝ }
     ensures { λ r. ⌜ Within (r .left) (r .at) (length (now (buf .entry))) (length (now (out .entry))) ⌝ }
 {
-    let j = passrun::judge::finish(pass, &buf[..left], out, at);
+    let j = pass_setup::ending::finish(pass, &buf[..left], out, at);
     let n = j.at;
     flush(out, n);
     let p = j.pass;
@@ -89,7 +89,7 @@ fn turn(f: Flow, buf: &mut [u8], windows: &mut [f64], out: &mut [u8]) -> Flow
     let pass = r.pass;
     let at = r.at;
     let stage = pass.stage;
-    if passrun::judge::is_ended(stage) {
+    if pass_setup::ending::is_ended(stage) {
         flush(out, at);
         return Flow {
             pass,
@@ -129,7 +129,7 @@ fn pump(first: Flow, buf: &mut [u8], windows: &mut [f64], out: &mut [u8])
 // The list's line of names comes first.
 fn start(buf: &mut [u8], windows: &mut [f64], out: &mut [u8]) {
     let n = passlines::lines::names_line(out, 0);
-    let pass = passrun::pass::new_pass();
+    let pass = pass_setup::pass::new_pass();
     pump(
         Flow {
             pass,

@@ -16,10 +16,10 @@ use Rattle.passtext.specs.declared.block.Block.the-variants.{Taken, Refused}
 use Rattle.passtext.specs.Lines.{outside, BlockSaid, flagAndSamples, blockRead, blockLine, blockSaid}
 use Rattle.passlines.specs.declared.lines.Shown.{Shown}
 use Rattle.passlines.specs.Lines.{blockText, written}
-use Rattle.passrun.specs.declared.pass.Stage.the-variants.{Blocks}
-use Rattle.passrun.specs.declared.pass.Pass.{Pass}
-use Rattle.passrun.specs.Judging.{Judgement, counted, refused, shownOf, answeredBy, answered, blockJudged}
-use Rattle.passrun.specs.Buffers.{Printed, printed, printedWith, asPrinted}
+use Rattle.pass_setup.specs.declared.pass.Stage.the-variants.{Blocks}
+use Rattle.pass_setup.specs.declared.pass.Pass.{Pass}
+use Rattle.pass_setup.specs.Judging.{Judgement, counted, refused, shownOf, answeredBy, answered, blockJudged}
+use Rattle.pass_setup.specs.Buffers.{Printed, printed, printedWith, asPrinted}
 
 -- an answer, by its refusal number
 module _ (p : Pass) (a : Answer) (c : Channel) where

@@ -1,5 +1,4 @@
--- Laws of the lines of a pass text, and of the whole list.
-pub mod LineCases
+-- Laws of a block's line, of the lines of a chunk, and of the whole list.
 pub mod BlockCases
 pub mod RunLaws
 pub mod TextLaws

@@ -15,12 +15,12 @@ use Rattle.passlines.specs.Lines.{longest, written}
 use Rattle.passtext.specs.Bytes.{newline, place}
 use Rattle.passstream.specs.Stream.{lines, rest, lineLength}
 use Rattle.passstream.proofs.StreamLaws.{first-line, first-line-rest, no-line, no-line-rest, line-within, rest-chunks, fold-chunks}
-use Rattle.passrun.specs.declared.pass.Pass.{Pass}
-use Rattle.passrun.specs.Judging.{Judgement, judged}
-use Rattle.passrun.specs.Listing.{Run, added, further, ended, closed, listFrom}
-use Rattle.passrun.specs.declared.pass.Judged.{Judged}
-use Rattle.passrun.specs.declared.run.Ran.{Ran}
-use Rattle.passrun.specs.Buffers.{Printed, printed, printedWith, asPrinted, Progress, past, lineRun, hasRoom, onlyIf, linesRun, asProgress}
+use Rattle.pass_setup.specs.declared.pass.Pass.{Pass}
+use Rattle.pass_setup.specs.Judging.{Judgement, judged}
+use Rattle.pass_setup.specs.Listing.{Run, added, further, ended, closed, listFrom}
+use Rattle.pass_setup.specs.declared.pass.Judged.{Judged}
+use Rattle.pass_setup.specs.declared.pass.Ran.{Ran}
+use Rattle.pass_setup.specs.Buffers.{Printed, printed, printedWith, asPrinted, Progress, past, lineRun, hasRoom, onlyIf, linesRun, asProgress}
 use Rattle.passrun.proofs.TextLaws.{judged-short, ended-short, written-behind, written-length, written-within}
 
 -- a run whose list waits in a buffer

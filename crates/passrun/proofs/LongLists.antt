@@ -17,11 +17,11 @@ use Rattle.passtext.proofs.LongLines.{longestLine, long-names, long-values, lon
 use Rattle.passlines.specs.Lines.{bit}
 use Rattle.passstream.specs.Stream.{lines, rest, lineLength}
 use Rattle.passstream.proofs.StreamLaws.{first-line, no-line, no-line-rest, line-within}
-use Rattle.passrun.specs.declared.pass.Stage.{Stage}
-use Rattle.passrun.specs.declared.pass.Stage.the-variants.{Names, Values, BlockNames, Blocks, Ended}
-use Rattle.passrun.specs.declared.pass.Pass.{Pass}
-use Rattle.passrun.specs.Judging.{Judgement, refused, namesBy, valuesBy, valuesJudged, blockJudged, judgedAt, judged}
-use Rattle.passrun.specs.Listing.{Run, added, further, endedAt, ended, closed, isEnded, listFrom}
+use Rattle.pass_setup.specs.declared.pass.Stage.{Stage}
+use Rattle.pass_setup.specs.declared.pass.Stage.the-variants.{Names, Values, BlockNames, Blocks, Ended}
+use Rattle.pass_setup.specs.declared.pass.Pass.{Pass}
+use Rattle.pass_setup.specs.Judging.{Judgement, refused, namesBy, valuesBy, valuesJudged, blockJudged, judgedAt, judged}
+use Rattle.pass_setup.specs.Listing.{Run, added, further, endedAt, ended, closed, isEnded, listFrom}
 
 -- a run that has ended stays as it is
 module _ (r : Run) (e : r .pass .stage ≡ Ended) where

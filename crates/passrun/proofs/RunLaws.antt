@@ -12,8 +12,8 @@ use Rattle.passlines.specs.Lines.{longest}
 use Rattle.passtext.proofs.ByteLaws.{tail-is}
 use Rattle.passstream.specs.Stream.{lines, lineLength}
 use Rattle.passstream.proofs.StreamLaws.{first-line, no-line, line-here, no-line-here, line-within}
-use Rattle.passrun.specs.Judging.{judged}
-use Rattle.passrun.specs.Buffers.{Printed, printedWith, Progress, past, lineRun, hasRoom, onlyIf, linesRun}
+use Rattle.pass_setup.specs.Judging.{judged}
+use Rattle.pass_setup.specs.Buffers.{Printed, printedWith, Progress, past, lineRun, hasRoom, onlyIf, linesRun}
 
 -- the end of a run: no line is left, or no room
 pub run-out : (ls : List (List ℕ)) (g : Progress) → ls ≡ [] → g ≡ linesRun ls g

@@ -16,12 +16,12 @@ use Rattle.channel_model.specs.Blocks.{Outcome}
 use Rattle.passtext.specs.Lines.{outside, names, blockNames, refusalUnless, valuesLine, flagAndSamples}
 use Rattle.passlines.specs.Lines.{longest, laid, written}
 use Rattle.passlines.proofs.TextLengths.{short-refusal, short-block}
-use Rattle.passrun.specs.declared.pass.Stage.{Stage}
-use Rattle.passrun.specs.declared.pass.Stage.the-variants.{Names, Values, BlockNames, Blocks, Ended}
-use Rattle.passrun.specs.declared.pass.Pass.{Pass}
-use Rattle.passrun.specs.Opening.{readied}
-use Rattle.passrun.specs.Judging.{Judgement, counted, refused, taken, namesBy, readiedBy, valuesBy, valuesJudged, shownOf, answeredBy, answered, blockJudged, judgedAt, judged}
-use Rattle.passrun.specs.Listing.{endedAt, ended}
+use Rattle.pass_setup.specs.declared.pass.Stage.{Stage}
+use Rattle.pass_setup.specs.declared.pass.Stage.the-variants.{Names, Values, BlockNames, Blocks, Ended}
+use Rattle.pass_setup.specs.declared.pass.Pass.{Pass}
+use Rattle.pass_setup.specs.Opening.{readied}
+use Rattle.pass_setup.specs.Judging.{Judgement, counted, refused, taken, namesBy, readiedBy, valuesBy, valuesJudged, shownOf, answeredBy, answered, blockJudged, judgedAt, judged}
+use Rattle.pass_setup.specs.Listing.{endedAt, ended}
 
 abbrev Short : Judgement → Type 0
 Short j = length (j .text) ≤ longest

@@ -1,11 +1,11 @@
 // The line of a block.
 ghost use mathlib.Core.Path.{_≡_};
 ghost use Rattle.passtext.specs.Lines.{flagAndSamples};
-ghost use Rattle.passrun.specs.Judging.{shownOf, answeredBy, blockJudged};
-ghost use Rattle.passrun.specs.Buffers.{printed, printedWith, asPrinted};
-use crate::pass::Judged;
-use crate::pass::Pass;
-use crate::pass::Stage;
+ghost use Rattle.pass_setup.specs.Judging.{shownOf, answeredBy, blockJudged};
+ghost use Rattle.pass_setup.specs.Buffers.{printed, printedWith, asPrinted};
+use pass_setup::pass::Judged;
+use pass_setup::pass::Pass;
+use pass_setup::pass::Stage;
 use channel_model::Answer;
 use channel_model::Blocked;
 use passlines::lines::Shown;
@@ -29,10 +29,10 @@ fn take_answer(p: Pass, b: Blocked, out: &mut [u8], at: usize) -> Judged
 {
     let a = b.answer;
     if a.refusal != 0 {
-        return crate::pass::refuse(p, a.refusal, out, at);
+        return pass_setup::pass::refuse(p, a.refusal, out, at);
     }
-    let line = crate::pass::count(p.line);
-    let block = crate::pass::count(p.block);
+    let line = pass_setup::pass::count(p.line);
+    let block = pass_setup::pass::count(p.block);
     let s = shown(a);
     let next = passlines::lines::block_line(out, at, block, s);
     let stage = Stage::Blocks;
@@ -53,7 +53,7 @@ pub fn take_block(p: Pass, line: &[u8], windows: &mut [f64], out: &mut [u8], at:
     let mut samples = [0.0f32; 4096];
     let said = passtext::block::block_line(line, &mut samples);
     let passtext::block::Block::Taken { flag, count } = said else {
-        return crate::pass::refuse(p, 13, out, at);
+        return pass_setup::pass::refuse(p, 13, out, at);
     };
     let mut none = [0.0f32; 1];
     let c = p.channel;

@@ -1,7 +1,5 @@
-// A pass text line by line (the scope, "The pass text and its list"): what each line does to the pass and adds to the list, the lines of a
-// chunk of the text, and the end of the input. specs/Listing.antt has the whole list of a whole text.
+// A pass text line by line (the scope, "The pass text and its list"): the line of a block, any line by what is due, and the lines of a chunk of the
+// text. What they mean is in pass_setup.
 pub mod block;
 pub mod judge;
-pub mod pass;
 pub mod run;
-pub mod setup;

@@ -1,15 +1,9 @@
 // The lines of a chunk of the text.
 ghost use mathlib.Core.Path.{_≡_};
 ghost use Rattle.passstream.specs.Stream.{lines};
-ghost use Rattle.passrun.specs.Buffers.{linesRun, asProgress};
-use crate::pass::Pass;
-
-// How far a run over a chunk has come: the pass, how many bytes are used, and the place after what waits in the list's buffer.
-pub struct Ran {
-    pub pass: Pass,
-    pub used: usize,
-    pub at: usize,
-}
+ghost use Rattle.pass_setup.specs.Buffers.{linesRun, asProgress};
+use pass_setup::pass::Pass;
+use pass_setup::pass::Ran;
 
 // Judges the whole lines of s, one after the other, as long as the list's buffer has room for its longest line.
 pub fn run(p: Pass, s: &[u8], windows: &mut [f64], out: &mut [u8], at: usize) -> Ran

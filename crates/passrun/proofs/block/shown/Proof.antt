@@ -1,6 +1,6 @@
 -- `shown` copies what the list shows.
 use mathlib.Core.Path.{refl}
-use Rattle.passrun.specs.Judging.{shownOf}
+use Rattle.pass_setup.specs.Judging.{shownOf}
 use Rattle.passrun.proofs.block.shown.Statement.{statement}
 use Rattle.passrun.proofs.block.shown.Tie as tie
 

@@ -1,5 +1,5 @@
 -- `take_answer`, refused and accepted.
-use Rattle.passrun.proofs.LineCases.{printed-as}
+use Rattle.pass_setup.proofs.LineCases.{printed-as}
 use Rattle.passrun.proofs.BlockCases.{answer-refused, answer-printed}
 use borrow.Author.Needs.{needs}
 use Rattle.passrun.proofs.block.take_answer.Statement.{statement}

@@ -1,5 +1,5 @@
 -- `judge`, by where in the text the line stands.
-use Rattle.passrun.proofs.LineCases.{names-judged, values-judged, block-names-judged, blocks-judged, ended-judged}
+use Rattle.pass_setup.proofs.LineCases.{names-judged, values-judged, block-names-judged, blocks-judged, ended-judged}
 use borrow.Author.Needs.{needs}
 use Rattle.passrun.proofs.judge.judge.Statement.{statement}
 use Rattle.passrun.proofs.judge.judge.Tie as tie

@@ -5,7 +5,7 @@ use native.Mathlib.Omega.{arith}
 use borrow.Author.Needs.{needs}
 use lib.ListN.{length, drop}
 use Rattle.passstream.specs.Stream.{lines}
-use Rattle.passrun.specs.Buffers.{linesRun, asProgress, past, asPrinted, hasRoom}
+use Rattle.pass_setup.specs.Buffers.{linesRun, asProgress, past, asPrinted, hasRoom}
 use Rattle.passrun.proofs.RunLaws.{run-full, run-ends, run-goes-on, line-fits}
 use Rattle.passrun.proofs.run.run.Statement.{statement}
 use Rattle.passrun.proofs.run.run.Tie as tie

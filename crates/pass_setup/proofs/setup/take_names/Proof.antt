@@ -1,0 +1,25 @@
+-- `take_names`, by the refusal number.
+use Rattle.pass_setup.proofs.LineCases.{printed-as, taken-printed, names-refused, names-taken}
+use borrow.Author.Needs.{needs}
+use Rattle.pass_setup.proofs.setup.take_names.Statement.{statement}
+use Rattle.pass_setup.proofs.setup.take_names.Tie as tie
+
+refuse-requires : tie.Need-refuse-requires
+refuse-requires c κs = search needs
+
+same-length : tie.Need-same-length
+same-length c = search needs
+
+returns : tie.Need-returns
+returns c = printed-as (c .before .before .before .before .before .before .args .at) (c .before .before .before .before .before .before .args .out .now) (c .before .before .refuse .ensures) (names-refused (c .before .before .before .before .before .before .args .p) (c .before .before .before .before .before .before .args .refusal) (c .before .before .before .before .before .before .args .next) (c .before .before .before .before .if1 .taken))
+
+take-requires : tie.Need-take-requires
+take-requires c κs = search needs
+
+returns-2 : tie.Need-returns-2
+returns-2 c =
+    printed-as (c .before .before .before .before .args .at) (c .before .before .before .before .args .out .now) (taken-printed (c .before .before .before .before .args .p) (c .before .before .before .before .args .at) (c .before .before .before .before .args .out .now) (c .before .before .before .before .args .next) (c .before .before .before .before .args .p .channel) (c .take .ensures))
+    (names-taken (c .before .before .before .before .args .p) (c .before .before .before .before .args .refusal) (c .before .before .before .before .args .next) (c .before .before .if1 .left))
+
+pub take-names-spec : {M : Type 1} → statement M
+take-names-spec = tie.close (tie.spec refuse-requires same-length returns take-requires returns-2)
