@@ -1,4 +1,5 @@
-// For the programs that run cases written by hand: a channel led through calls by a script, what an answer may be, and what such a program prints.
-pub mod answers;
-pub mod report;
+// A channel led through calls by the letters of a script, what is set before a call, and what is then looked at. For the program that runs cases
+// written by hand; its text says what each letter stands for.
+pub mod look;
 pub mod session;
+pub mod set;

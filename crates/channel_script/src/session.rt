@@ -1,93 +1,91 @@
-// A channel led through calls that a script names, a letter each, and what is then seen of it.
-//
-//     a  assign: target 137.5 MHz, all else 0           A  the same with a nominal frequency of 2 MHz
-//     t  assign of two frequencies, the second 400 MHz  T  the same with equal targets
-//     x  assign that is refused: a frequency of 1 Hz    r  release
-//     0 1 2 3 4  a block without samples, of that flag; with 0 or 1 its SNR is -20
-//     s  flag 0, the sample (0.5, 0.25); the SNR of one sample is 40
-//     c  flag 1, the sample (1, 0)                      q  flag 1, the sample (0, 1), a quarter turn away
-//     b  flag 1, the sample (0.8, 0.6)                  n  flag 1, the sample (3, 4)
-//     o  flag 1, the sample (0, 0)
-//     j  flag 1, 4,096 samples that jump about: longer than the guard, they lose every lock
-//     d  flag 1 with a sample for each of two frequencies, (1, 0) and (0, 1)
-//     D  flag 0 with the same
-//
-// Dual lock is off where nothing else is said, so no answer reads the window memory and every block may bring fresh memory.
-use channel_control::assign::assign;
+// A channel between two calls, and the calls.
+ghost use Prim.Native.Nat.{_≤_};
 use channel::block::block;
+use channel_control::assign::assign;
+use channel_control::figures::figures;
 use channel_control::release::release;
 use channel_model::Answer;
 use channel_model::Blocked;
 use channel_model::Carriers;
 use channel_model::Channel;
-use channel_model::Reading;
 use channel_model::Settings;
-use tracker::state::CarrierPllEkf;
 
-// The target of every channel here, in Hz; where the nominal frequency is 0 it is what the offset is added to.
-pub const TARGET: f64 = 137500000.0;
+// A block to come: its flag, how many numbers its lists and its window memory have, and what stands in them. The first list begins with re and
+// im, the second with other; all else in the lists is fill. With jumps the first list has 4,096 samples that no tracker follows.
+pub struct Lists {
+    pub flag: u64,
+    pub first: usize,
+    pub second: usize,
+    pub windows: usize,
+    pub re: f32,
+    pub im: f32,
+    pub other: f32,
+    pub fill: f32,
+    pub jumps: bool,
+}
 
-// A channel between two calls.
 pub struct Session {
+    // Whether every letter so far stood for something.
+    pub known: bool,
+    pub settings: Settings,
+    pub carriers: Carriers,
+    pub lists: Lists,
     pub channel: Channel,
+    // The tracker whose values are set: 0, 1 or 2, and above that `pll_tracker`.
+    pub place: u64,
     // The number that the last open or assign answered.
     pub number: u64,
-    // What the last block answered, and the one before it.
+    // What the last block answered, the one before it, and one that is held.
     pub answer: Answer,
     pub before: Answer,
-    // The lock marks of the latest blocks, the first one highest.
+    pub held: Answer,
+    // The lock marks of the blocks as decimal digits, the first one highest.
     pub marks: u64,
-    // The sample of the last block, where it had one and no more, as the block left it.
-    pub sample: [f32; 2],
-}
-
-// What is looked at in a tracker.
-pub struct Look {
-    pub phase: f64,
-    pub metric: f64,
-    pub locked: bool,
-}
-
-// What is seen of a session.
-pub struct View {
-    pub number: u64,
-    pub answer: Answer,
-    pub before: Answer,
-    pub marks: u64,
-    pub sample: [f32; 2],
-    pub is_locked: bool,
-    pub ever_locked: bool,
-    pub last_snr: f32,
-    pub target: f64,
-    pub reading: Reading,
-    pub active_idx: u64,
-    pub pll: Look,
-    pub t0: Look,
-    pub t1: Look,
-    pub t2: Look,
+    // What the last block left of re, im and the first fill of the second list, and whether it changed the window memory.
+    pub re: f32,
+    pub im: f32,
+    pub other: f32,
+    pub touched: bool,
+    // Figures that were remembered.
+    pub figures: [f32; 12],
 }
 
 // A carrier at 40,000 samples a second, where a fade lasts as many blocks as seconds.
-pub fn settings(bank: bool, fade: u64) -> Settings {
+fn first_settings() -> Settings {
     Settings {
         rate: 40000,
         factor: 1,
         modulation: 0,
         adaptive: false,
         dual_lock: false,
-        bank,
+        bank: false,
         two: false,
-        fade,
+        fade: 5,
         ratio: 1.0,
     }
 }
 
-pub fn carriers() -> Carriers {
+fn first_carriers() -> Carriers {
     Carriers {
         nominal: 0.0,
-        target: TARGET,
+        target: 137500000.0,
         target2: 0.0,
         frequency2: 0.0,
+    }
+}
+
+// A block without samples.
+fn no_lists(flag: u64) -> Lists {
+    Lists {
+        flag,
+        first: 0,
+        second: 0,
+        windows: 8192,
+        re: 0.5,
+        im: 0.5,
+        other: 0.5,
+        fill: 0.5,
+        jumps: false,
     }
 }
 
@@ -107,22 +105,45 @@ fn no_answer() -> Answer {
     }
 }
 
-pub fn opened(s: Settings) -> Session {
-    let r = opening::open(s);
-    let channel = r.channel;
+// Before the first call: a channel that was opened with the settings above.
+pub fn new_session() -> Session {
+    let settings = first_settings();
+    let carriers = first_carriers();
+    let lists = no_lists(0);
     let answer = no_answer();
+    let r = opening::open(settings);
+    let channel = r.channel;
     Session {
+        known: true,
+        settings,
+        carriers,
+        lists,
         channel,
+        place: 3,
         number: r.refusal,
         answer,
         before: answer,
+        held: answer,
         marks: 0,
-        sample: [0.0; 2],
+        re: 0.0,
+        im: 0.0,
+        other: 0.0,
+        touched: false,
+        figures: [0.0; 12],
     }
 }
 
-pub fn assigned(s: Session, a: Carriers) -> Session {
-    let r = assign(s.channel, a);
+fn opened(s: Session) -> Session {
+    let r = opening::open(s.settings);
+    let channel = r.channel;
+    let mut t = s;
+    t.channel = channel;
+    t.number = r.refusal;
+    t
+}
+
+fn assigned(s: Session) -> Session {
+    let r = assign(s.channel, s.carriers);
     let channel = r.channel;
     let mut t = s;
     t.channel = channel;
@@ -134,58 +155,6 @@ fn released(s: Session) -> Session {
     let channel = release(s.channel);
     let mut t = s;
     t.channel = channel;
-    t
-}
-
-// One mark more, of the latest 32.
-fn with_mark(marks: u64, locked: bool) -> u64 {
-    let shifted = marks % 0x8000_0000 * 2;
-    if locked { shifted + 1 } else { shifted }
-}
-
-fn answered(s: Session, b: Blocked) -> Session {
-    let channel = b.channel;
-    let answer = b.answer;
-    let before = s.answer;
-    let marks = with_mark(s.marks, answer.locked);
-    Session {
-        channel,
-        number: s.number,
-        answer,
-        before,
-        marks,
-        sample: [0.0; 2],
-    }
-}
-
-// A block with lists and window memory as they are given.
-pub fn fed(
-    s: Session,
-    flag: u64,
-    first: &mut [f32],
-    second: &mut [f32],
-    windows: &mut [f64],
-) -> Session {
-    let b = block(s.channel, flag, first, second, windows);
-    answered(s, b)
-}
-
-// A block with a first list only.
-pub fn listed(s: Session, flag: u64, list: &mut [f32]) -> Session {
-    let mut none = [0.0f32; 0];
-    let mut windows = [0.0; 8192];
-    fed(s, flag, list, &mut none, &mut windows)
-}
-
-fn quiet(s: Session, flag: u64) -> Session {
-    let mut list = [0.0f32; 0];
-    listed(s, flag, &mut list)
-}
-
-fn sampled(s: Session, flag: u64, re: f32, im: f32) -> Session {
-    let mut sample = [re, im];
-    let mut t = listed(s, flag, &mut sample);
-    t.sample = sample;
     t
 }
 
@@ -210,8 +179,8 @@ fn sine(i: usize) -> f32 {
     }
 }
 
-fn jumps() -> [f32; 8192] {
-    let mut list = [0.0f32; 8192];
+fn jumps() -> [f32; 8194] {
+    let mut list = [0.0f32; 8194];
     for i in 0..4096 {
         list[2 * i] = cosine(i);
         list[2 * i + 1] = sine(i);
@@ -219,72 +188,177 @@ fn jumps() -> [f32; 8192] {
     list
 }
 
-fn shaken(s: Session) -> Session {
-    let mut list = jumps();
-    listed(s, 1, &mut list)
-}
-
-fn doubled(s: Session, flag: u64) -> Session {
-    let mut first = [1.0f32, 0.0];
-    let mut second = [0.0f32, 1.0];
-    let mut windows = [0.0; 8192];
-    fed(s, flag, &mut first, &mut second, &mut windows)
-}
-
-// What an assign brings.
-fn carriers_of(letter: u8) -> Carriers {
-    let mut a = carriers();
-    match letter {
-        b'A' => a.nominal = 2000000.0,
-        b't' => a.target2 = 400000000.0,
-        b'T' => a.target2 = TARGET,
-        b'x' => a.nominal = 1.0,
-        _ => {}
+fn first_list(l: Lists) -> [f32; 8194] {
+    if l.jumps {
+        return jumps();
     }
-    a.frequency2 = a.target2;
-    a
+    let mut list = [l.fill; 8194];
+    list[0] = l.re;
+    list[1] = l.im;
+    list
 }
 
-// The real and the imaginary part of a flag 1 block's sample.
-fn real_of(letter: u8) -> f32 {
+fn second_list(l: Lists) -> [f32; 8194] {
+    let mut list = [l.fill; 8194];
+    list[0] = l.other;
+    list
+}
+
+fn at_most(n: usize, most: usize) -> usize
+    ensures { λ r. ⌜ r ≤ most ⌝ }
+{
+    if n < most { n } else { most }
+}
+
+// Window memory is lent as sevens.
+fn is_touched(windows: &[f64]) -> bool {
+    let mut touched = false;
+    let mut i = 0;
+    while i < windows.len() {
+        touched = touched | (windows[i] != 7.0);
+        i += 1;
+    }
+    touched
+}
+
+fn with_mark(marks: u64, locked: bool) -> u64 {
+    let shifted = marks % 0x1_0000_0000 * 10;
+    if locked { shifted + 1 } else { shifted }
+}
+
+fn answered(s: Session, b: Blocked) -> Session {
+    let channel = b.channel;
+    let answer = b.answer;
+    let before = s.answer;
+    let mut t = s;
+    t.channel = channel;
+    t.answer = answer;
+    t.before = before;
+    t.marks = with_mark(s.marks, answer.locked);
+    t
+}
+
+fn number_at(list: &[f32], i: usize) -> f32 {
+    if i < list.len() {
+        return list[i];
+    }
+    0.0
+}
+
+// A block with as much of these lists and of this memory as is asked for.
+fn lent(
+    s: Session,
+    l: Lists,
+    first: &mut [f32],
+    second: &mut [f32],
+    windows: &mut [f64],
+) -> Session {
+    let n = at_most(l.first, first.len());
+    let m = at_most(l.second, second.len());
+    let k = at_most(l.windows, windows.len());
+    let b = block(
+        s.channel,
+        l.flag,
+        &mut first[..n],
+        &mut second[..m],
+        &mut windows[..k],
+    );
+    answered(s, b)
+}
+
+fn fed(s: Session, l: Lists) -> Session {
+    let mut first = first_list(l);
+    let mut second = second_list(l);
+    let mut windows = [7.0; 8193];
+    let mut t = lent(s, l, &mut first, &mut second, &mut windows);
+    t.re = number_at(&first, 0);
+    t.im = number_at(&first, 1);
+    t.other = number_at(&second, 1);
+    t.touched = is_touched(&windows);
+    t
+}
+
+fn sample(flag: u64, re: f32, im: f32) -> Lists {
+    let mut l = no_lists(flag);
+    l.first = 2;
+    l.re = re;
+    l.im = im;
+    l
+}
+
+fn shaken() -> Lists {
+    let mut l = no_lists(1);
+    l.first = 8192;
+    l.jumps = true;
+    l
+}
+
+// (1, 0) and (0, 1).
+fn doubled(flag: u64) -> Lists {
+    let mut l = sample(flag, 1.0, 0.0);
+    l.second = 2;
+    l.other = 0.0;
+    l.fill = 1.0;
+    l
+}
+
+// The samples that have a letter of their own.
+fn lists_of(letter: u8) -> Lists {
     match letter {
-        b'c' => 1.0,
-        b'b' => 0.8,
-        b'n' => 3.0,
-        _ => 0.0,
+        b's' => sample(0, 0.5, 0.25),
+        b'c' => sample(1, 1.0, 0.0),
+        b'q' => sample(1, 0.0, 1.0),
+        b'b' => sample(1, 0.8, 0.6),
+        b'n' => sample(1, 3.0, 4.0),
+        b'o' => sample(1, 0.0, 0.0),
+        b'j' => shaken(),
+        b'd' => doubled(1),
+        b'D' => doubled(0),
+        _ => no_lists((letter % 16) as u64),
     }
 }
 
-fn imaginary_of(letter: u8) -> f32 {
-    match letter {
-        b'q' => 1.0,
-        b'b' => 0.6,
-        b'n' => 4.0,
-        _ => 0.0,
-    }
+pub fn unknown(s: Session) -> Session {
+    let mut t = s;
+    t.known = false;
+    t
 }
 
-// A block that is neither empty nor one of a single sample.
-fn other(s: Session, letter: u8) -> Session {
+// Keeps the answer, brings the kept one to the place of the one before, or keeps the figures.
+fn kept(s: Session, letter: u8) -> Session {
+    let mut t = s;
     match letter {
-        b'j' => shaken(s),
-        b'd' => doubled(s, 1),
-        _ => doubled(s, 0),
+        b'h' => {
+            let a = s.answer;
+            t.held = a;
+        }
+        b'H' => {
+            let a = s.held;
+            t.before = a;
+        }
+        _ => {
+            let f = figures(s.channel);
+            t.figures = f;
+        }
     }
+    t
 }
 
-// One call.
 fn called(s: Session, letter: u8) -> Session {
     match letter {
-        b'a' | b'A' | b't' | b'T' | b'x' => assigned(s, carriers_of(letter)),
+        b'O' => opened(s),
+        b'a' => assigned(s),
         b'r' => released(s),
-        b'0'..=b'4' => quiet(s, (letter % 16) as u64),
-        b's' => sampled(s, 0, 0.5, 0.25),
-        b'j' | b'd' | b'D' => other(s, letter),
-        _ => sampled(s, 1, real_of(letter), imaginary_of(letter)),
+        b'p' => fed(s, s.lists),
+        b'h' | b'H' | b'y' => kept(s, letter),
+        b'0'..=b'4' | b's' | b'c' | b'q' | b'b' | b'n' | b'o' | b'j' | b'd' | b'D' => {
+            fed(s, lists_of(letter))
+        }
+        _ => unknown(s),
     }
 }
 
+// One call after the other.
 pub fn played(s: Session, script: &[u8]) -> Session {
     let mut t = s;
     let mut i = 0;
@@ -294,56 +368,3 @@ pub fn played(s: Session, script: &[u8]) -> Session {
     }
     t
 }
-
-fn look_at(t: CarrierPllEkf) -> Look {
-    let x = t.x;
-    Look {
-        phase: x[0],
-        metric: t.lock_metric,
-        locked: t.is_locked,
-    }
-}
-
-pub fn view_of(s: Session) -> View {
-    let c = s.channel;
-    let answer = s.answer;
-    let before = s.before;
-    let sample = s.sample;
-    let reading = c.reading;
-    let pll = look_at(c.pll.ekf);
-    let t0 = look_at(c.bank.t0.ekf);
-    let t1 = look_at(c.bank.t1.ekf);
-    let t2 = look_at(c.bank.t2.ekf);
-    View {
-        number: s.number,
-        answer,
-        before,
-        marks: s.marks,
-        sample,
-        is_locked: c.is_locked,
-        ever_locked: c.ever_locked,
-        last_snr: c.last_snr,
-        target: c.carriers.target,
-        reading,
-        active_idx: c.bank.active_idx,
-        pll,
-        t0,
-        t1,
-        t2,
-    }
-}
-
-// What is seen of a channel that was opened and led through a script.
-pub fn seen_of(s: Settings, script: &[u8]) -> View {
-    view_of(played(opened(s), script))
-}
-
-// The same with a bank or without one; a fade lasts five blocks.
-pub fn seen(bank: bool, script: &[u8]) -> View {
-    seen_of(settings(bank, 5), script)
-}
-
-// Whether there is a bank, by name.
-pub const BANK: bool = true;
-
-pub const SINGLE: bool = false;

@@ -7,7 +7,7 @@ use Rattle.channel_script.proofs.session.jumps.Statement.{statement}
 use Rattle.channel_script.proofs.session.jumps.Tie as tie
 
 abbrev Inv-loop : tie.InvT-loop
-Inv-loop list₀ i₀ list i = (i ≤ 4096) × (length list ≡ 8192)
+Inv-loop list₀ i₀ list i = (i ≤ 4096) × (length list ≡ 8194)
 
 abbrev μ-loop : tie.MeasureT-loop
 μ-loop list₀ i₀ list i = 4096 - i
