@@ -318,7 +318,7 @@ fn lists_of(letter: u8) -> Lists {
     }
 }
 
-pub fn unknown(s: Session) -> Session {
+fn unknown(s: Session) -> Session {
     let mut t = s;
     t.known = false;
     t

@@ -1,8 +1,8 @@
 // The calls: each reads its arguments, is made, and its answer is compared with the one that follows.
 ghost use Prim.Native.Nat.{_≤_};
 ghost use lib.ListN.{length};
-use channel_control::assign::assign;
 use channel::block::block;
+use channel_control::assign::assign;
 use channel_control::figures::figures;
 use channel_control::release::release;
 use channel_model::Answer;

@@ -7,7 +7,7 @@ use mathlib.Core.List.{List, [], _∷_, _++_}
 use mathlib.Core.Option.{Option, none, some}
 use borrow.Author.Tests.{eq-eqb}
 use lib.Ieee.{Float, nan, inf, fin, eq, isNan, up, down}
-use Rattle.runs.specs.Runs.{after}
+use Rattle.runs.specs.Runs.{after, answers}
 use Rattle.runs.proofs.Lockstep.{after-append, invariant, places-map, lockstep}
 use Rattle.tracker.specs.declared.state.CarrierPllEkf.{CarrierPllEkf}
 use Rattle.tracker.specs.declared.state.Tracked.{Tracked}
@@ -20,10 +20,10 @@ use Rattle.channel_model.specs.Opening as opening
 use Rattle.channel_model.specs.Opening.{openRefusal, withSwitches, newTracker, newSetup, restingBank, idleChannel, noCarriers, newChannel, refusedSettings, openedBy}
 use Rattle.channel_model.specs.Releasing.{released}
 use Rattle.independence.specs.Calls.{Call, release, Held, opened, channelAfter, next, answer, Equal, HandsBack}
-use Rattle.independence.specs.Demand3.{OneFrequency, EndsReleased, afterOwn, Independent, Demand3, SameFloat, SamePlace, neither, both, Demand3AsFloats}
+use Rattle.independence.specs.Demand3.{OneFrequency, EndsReleased, afterOwn, Independent, Demand3, SameCalls, SameFloat, SamePlace, neither, both, Demand3AsFloats}
 use Rattle.independence.proofs.Constants.{Constants, constants, Single, single-kept, call-constants}
-use Rattle.independence.proofs.Waiting.{hidden, blind, seenBy, seen, Waiting, release-waiting}
-use Rattle.independence.proofs.Steps.{Related, apart, call-step}
+use Rattle.independence.proofs.Waiting.{hidden, blind, seenBy, seen, Waiting, Apart, release-waiting}
+use Rattle.independence.proofs.Steps.{Related, apart, call-step, Alike, still, same-call-step}
 
 -- ---- opened and released channels
 
@@ -120,16 +120,31 @@ own-fresh s o own (inl e) = rw e (opened-fresh s)
 own-fresh s o own (inr (front, e)) =
     subst (Fresh s) (sym (last s own front e)) (released-fresh s _ (invariant next (Keeps s) (keeps s o) (opened s) front refl))
 
+fresh-apart : (s : Settings) (g h : Held) → Fresh s g → Fresh s h → Apart (g .channel) (h .channel)
+fresh-apart s g h x y = record { blinded = x .blinded ∙ sym (y .blinded); carriers = x .carriers ∙ sym (y .carriers); first = x .waiting; second = y .waiting }
+
 -- ---- the demand
 
 pub demand3 : Demand3
 unfolding Demand3 Independent
 demand3 s f own₁ own₂ x₁ x₂ equal₁ equal₂ e y₁ y₂ =
     let o = open-single s f in
-    let h₁ = own-fresh s o own₁ x₁ in
-    let h₂ = own-fresh s o own₂ x₂ in
     lockstep next next answer answer Related Equal HandsBack HandsBack (λ a b. a ≡ b) (λ g h c d r q u v. call-step g h r q u v) _ _
-    (apart (record { blinded = h₁ .blinded ∙ sym (h₂ .blinded); carriers = h₁ .carriers ∙ sym (h₂ .carriers); first = h₁ .waiting; second = h₂ .waiting })) e y₁ y₂
+    (apart (fresh-apart s _ _ (own-fresh s o own₁ x₁) (own-fresh s o own₂ x₂))) e y₁ y₂
+
+-- ---- one list of calls on both
+
+same-answers : (g h : Held) → Alike g h → (calls : List Call) → answers next answer g calls ≡ answers next answer h calls
+unfolding answers
+same-answers g h r [] = refl
+same-answers g h r (c ∷ calls) =
+    let now = same-call-step g h c r in
+    λ i. now .agreed i ∷ same-answers (next g c) (next h c) (now .related) calls i
+
+pub same-calls : SameCalls
+unfolding SameCalls
+same-calls s f own₁ own₂ x₁ x₂ calls =
+    let o = open-single s f in same-answers _ _ (still (fresh-apart s _ _ (own-fresh s o own₁ x₁) (own-fresh s o own₂ x₂))) calls
 
 -- ---- the same with document 01's equality of floats
 

@@ -159,3 +159,45 @@ call-step g h r (assigns a) x y = assign-step g h a r
 call-step g h r (blocks b w v l) x y = block-step g h b w v l r x y
 call-step g h r releases x y = release-step g h r
 call-step g h r figure x y = figures-step g h r
+
+-- ---- one and the same call on both
+
+-- what is left of the relation where nothing is asked of the memories: both wait, or the channels are the same
+pub data Alike (g h : Held) : Type 0 where
+  still : Apart (g .channel) (h .channel) → Alike g h
+  one : g .channel ≡ h .channel → Alike g h
+
+alike : (g h : Held) → Related g h → Alike g h
+alike g h (apart e) = still e
+alike g h (together w v e i j k) = one e
+
+abbrev SameStep : Held → Held → Call → Type 0
+SameStep g h c = Agree next next answer answer Alike (λ (a b : Option Answer). a ≡ b) g h c c
+
+from-step : (g h : Held) (c : Call) → Step g h c c → SameStep g h c
+from-step g h c s = record { related = alike _ _ (s .related); agreed = s .agreed }
+
+still-block : (g h : Held) (b : BlockArgs) (w : List Float) → Apart (g .channel) (h .channel) → Step g h (block b w) (block b w)
+still-block g h b w f = go (eqb (length w) 8192) refl
+  where
+    go : (s : Bool) → eqb (length w) 8192 ≡ s → Step g h (block b w) (block b w)
+    go false e = refused-step g h b w w refl e (apart f)
+    go true e = let p = eqb-true (length w) 8192 e in led-step g h b w w p p (block-led _ _ b w w p p f)
+
+still-step : (g h : Held) (c : Call) → Apart (g .channel) (h .channel) → Step g h c c
+still-step g h (assign a) f = assign-step g h a (apart f)
+still-step g h (block b w) f = still-block g h b w f
+still-step g h release f = release-step g h (apart f)
+still-step g h figures f = figures-step g h (apart f)
+
+one-answer : (g h : Held) (c : Call) → g .channel ≡ h .channel → answer g c ≡ answer h c
+unfolding answer
+one-answer g h (assign a) e = refl
+one-answer g h (block b w) e = ap (λ (x : Channel). some (blocked x b w .answer)) e
+one-answer g h release e = refl
+one-answer g h figures e = refl
+
+pub same-call-step : (g h : Held) (c : Call) → Alike g h → SameStep g h c
+unfolding next
+same-call-step g h c (still f) = from-step g h c (still-step g h c f)
+same-call-step g h c (one e) = record { related = one (ap (λ (x : Channel). channelAfter x c) e); agreed = one-answer g h c e }

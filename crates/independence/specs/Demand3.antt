@@ -46,6 +46,13 @@ Independent Same =
 unfoldable pub Demand3 : Type 0
 Demand3 = Independent (λ (a b : Option Answer). a ≡ b)
 
+-- The same for one list of calls that both get, window memory with it: then no memory need be handed back, and its contents are any at every call.
+unfoldable pub SameCalls : Type 0
+SameCalls =
+    (s : Settings) → OneFrequency s →
+    (own₁ own₂ : List Call) → EndsReleased own₁ → EndsReleased own₂ →
+    (calls : List Call) → answers next answer (afterOwn s own₁) calls ≡ answers next answer (afterOwn s own₂) calls
+
 -- ---- the same with document 01's equality of floats, which is coarser
 
 -- "Two floats are equal if they compare equal; any NaN equals any NaN."

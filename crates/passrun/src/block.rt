@@ -3,11 +3,11 @@ ghost use mathlib.Core.Path.{_≡_};
 ghost use Rattle.passtext.specs.Lines.{flagAndSamples};
 ghost use Rattle.pass_setup.specs.Judging.{shownOf, answeredBy, blockJudged};
 ghost use Rattle.pass_setup.specs.Buffers.{printed, printedWith, asPrinted};
+use channel_model::Answer;
+use channel_model::Blocked;
 use pass_setup::pass::Judged;
 use pass_setup::pass::Pass;
 use pass_setup::pass::Stage;
-use channel_model::Answer;
-use channel_model::Blocked;
 use passlines::lines::Shown;
 
 fn shown(a: Answer) -> Shown
