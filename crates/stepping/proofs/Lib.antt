@@ -1,4 +1,3 @@
 -- What the proofs of the crate's functions cite, on plain values.
-pub mod FirstPhase
 pub mod SecondSteps
 pub mod EitherUpdate

@@ -2,7 +2,7 @@
 use mathlib.Core.Path.{_≡_, ap, sym, _∙_}
 use mathlib.Core.List.{List}
 use lib.Ieee.{Float}
-use Rattle.covariance.specs.declared.states.Channel.the-variants.{First, Second}
+use Rattle.covariance.specs.declared.states.Channel.the-variants.{First}
 use Rattle.tracker.specs.declared.state.CarrierPllEkf.{CarrierPllEkf}
 use Rattle.tracker.specs.declared.state.Tracked.{Tracked}
 use Rattle.tracker.specs.declared.correction.Correction.{Correction}
@@ -10,7 +10,7 @@ use Rattle.tracker.specs.declared.correction.Correction.the-variants.{Ke
 use Rattle.tracker.specs.declared.correction.Corrected.{Corrected}
 use Rattle.tracker.specs.Correction.{pairOrLost, channelCorrected}
 use Rattle.tracker.specs.Lock.{settled}
-use Rattle.tracker.specs.Update.{tracked, settledBy, settledAfter, secondBy, updated, secondCorrected, updatedDual}
+use Rattle.tracker.specs.Update.{tracked, settledBy, secondBy, updated, secondCorrected, updatedDual}
 
 -- a correction with the window that it left, and what each kind of update makes of it by its answer
 abbrev Left : Type 0
@@ -18,9 +18,6 @@ Left = Corrected × List Float
 
 abbrev one : Correction → Left → Tracked × List Float
 one a d = (settledBy (pairOrLost a) (d .0 .ekf) (d .0 .p), d .1)
-
-abbrev after : Float → Float → Correction → Left → Tracked × List Float
-after n pr a d = (settledAfter (pairOrLost a) (d .0 .ekf) (d .0 .p) n pr, d .1)
 
 abbrev two : Float → Float → Correction → Left → Tracked × List Float
 two re im a d = secondBy (pairOrLost a) (d .0 .ekf) (d .0 .p) (d .1) re im
@@ -38,16 +35,6 @@ module _ (t : CarrierPllEkf) (p w : List Float) (d : Corrected) (w₁ : List Flo
       → (tracked u (d .p), w₁) ≡ updated t p w re im
   unfolding updated
   update-kept re im n pr u h a e = (λ j. (tracked (e j) (d .p), w₁)) ∙ by-answer one (d, w₁) _ (Kept n pr) a h
-
-  pub second-lost : (n pr re im : Float) → (d, w₁) ≡ channelCorrected t p w Second re im → d .answer ≡ Lost
-      → (tracked (d .ekf) (d .p), w₁) ≡ secondCorrected t p w n pr re im
-  unfolding secondCorrected
-  second-lost n pr re im h a = by-answer (after n pr) (d, w₁) _ Lost a h
-
-  pub second-kept : (n pr re im m q : Float) (u : CarrierPllEkf) → (d, w₁) ≡ channelCorrected t p w Second re im → d .answer ≡ Kept m q → u ≡ settled (d .ekf) n pr
-      → (tracked u (d .p), w₁) ≡ secondCorrected t p w n pr re im
-  unfolding secondCorrected
-  second-kept n pr re im m q u h a e = (λ j. (tracked (e j) (d .p), w₁)) ∙ by-answer (after n pr) (d, w₁) _ (Kept m q) a h
 
   pub dual-lost : (re1 im1 re2 im2 : Float) → (d, w₁) ≡ channelCorrected t p w First re1 im1 → d .answer ≡ Lost
       → (tracked (d .ekf) (d .p), w₁) ≡ updatedDual t p w re1 im1 re2 im2

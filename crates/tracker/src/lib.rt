@@ -3,4 +3,3 @@ pub mod correction;
 pub mod lock;
 pub mod prediction;
 pub mod state;
-mod update;

@@ -4,6 +4,7 @@
 use covariance::states::Channel;
 use libc::STDOUT_FILENO;
 use measurement::modulation::Modulation;
+use stepping::update::update;
 use tracker::correction::Correction;
 use tracker::state::CarrierPllEkf;
 use vectors::numbers::is_next;
@@ -191,7 +192,7 @@ fn update_holds() -> bool {
     let p = b.p;
     let fill = t.pr_pushed;
     let mut w = window_of(fill, b.abs_i, b.q_sq);
-    let r = t.update(p, &mut w, s.0, s.1);
+    let r = update(t, p, &mut w, false, s.0, s.1, 0.0, 0.0);
     let k = 2 * (fill % 1024);
     let u = r.ekf;
     let q = r.p;
@@ -211,7 +212,7 @@ fn dual_holds() -> bool {
     let p = b.p;
     let fill = t.pr_pushed;
     let mut w = window_of(fill, b.abs_i, b.q_sq);
-    let r = t.update_dual(p, &mut w, s1.0, s1.1, s2.0, s2.1);
+    let r = update(t, p, &mut w, true, s1.0, s1.1, s2.0, s2.1);
     let k = 2 * (fill % 1024);
     let u = r.ekf;
     let q = r.p;

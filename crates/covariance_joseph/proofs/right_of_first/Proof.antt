@@ -1,21 +1,22 @@
--- `right_of_second` is T·(I − K·h)ᵀ + K·R·Kᵀ at state 3. The invariants: the rows above r, and row r up to column c, are stored.
+-- `right_of_first` is T·(I − K·h)ᵀ + K·R·Kᵀ at state 0. The invariants: the rows above r, and row r up to column c, are stored.
 use Prim.Native.Nat.{_≤_, _<_, _+_, _-_, _*_}
 use mathlib.Core.Path.{refl}
 use native.Mathlib.Omega.{arith}
 use borrow.Author.Needs.{needs}
 use Rattle.covariance.specs.Correction.{josephRightAt}
 use Rattle.covariance.proofs.Filling.{Rows, no-rows, store-entry, next-row, all-rows}
-use Rattle.stepping.proofs.joseph.right_of_second.Statement.{statement}
-use Rattle.stepping.proofs.joseph.right_of_second.Tie as tie
+use Rattle.covariance_joseph.proofs.FirstPhase.{right-at}
+use Rattle.covariance_joseph.proofs.right_of_first.Statement.{statement}
+use Rattle.covariance_joseph.proofs.right_of_first.Tie as tie
 
 abbrev Inv-loop2 : tie.InvT-loop2
-Inv-loop2 noise t k out₀ r c₀ out c = (r < 6) × (c ≤ 6) × Rows (josephRightAt t 3 k noise) out (6 * r + c)
+Inv-loop2 noise t k out₀ r c₀ out c = (r < 6) × (c ≤ 6) × Rows (josephRightAt t 0 k noise) out (6 * r + c)
 
 abbrev μ-loop2 : tie.MeasureT-loop2
 μ-loop2 noise t k out₀ r c₀ out c = 6 - c
 
 abbrev Inv-loop : tie.InvT-loop
-Inv-loop noise t k out₀ r₀ out r = (r ≤ 6) × Rows (josephRightAt t 3 k noise) out (6 * r + 0)
+Inv-loop noise t k out₀ r₀ out r = (r ≤ 6) × Rows (josephRightAt t 0 k noise) out (6 * r + 0)
 
 abbrev μ-loop : tie.MeasureT-loop
 μ-loop noise t k out₀ r₀ out r = 6 - r
@@ -40,9 +41,6 @@ array-read-out c = search needs
 
 mul-out-3 : tie.Need-mul-out-3 Inv-loop2 μ-loop2 Inv-loop μ-loop
 mul-out-3 c = search needs
-
-add-out-2 : tie.Need-add-out-2 Inv-loop2 μ-loop2 Inv-loop μ-loop
-add-out-2 c = search needs
 
 mul-out-4 : tie.Need-mul-out-4 Inv-loop2 μ-loop2 Inv-loop μ-loop
 mul-out-4 c = search needs
@@ -71,8 +69,8 @@ array-read-out-5 c = search needs
 mul-out-8 : tie.Need-mul-out-8 Inv-loop2 μ-loop2 Inv-loop μ-loop
 mul-out-8 c = search needs
 
-add-out-3 : tie.Need-add-out-3 Inv-loop2 μ-loop2 Inv-loop μ-loop
-add-out-3 c = search needs
+add-out-2 : tie.Need-add-out-2 Inv-loop2 μ-loop2 Inv-loop μ-loop
+add-out-2 c = search needs
 
 mul-out-9 : tie.Need-mul-out-9 Inv-loop2 μ-loop2 Inv-loop μ-loop
 mul-out-9 c = search needs
@@ -90,7 +88,8 @@ loop2-again : tie.Need-loop2-again Inv-loop2 μ-loop2 Inv-loop μ-loop
 loop2-again c =
     let l = c .before .loop2 in
     let r = c .before .before .before .loop .r in
-    (l .inv .0, omega arith, store-entry _ (l .out) r (l .c) _ (l .inv .0) (c .loop2-test .taken) refl (l .inv .2))
+    let a = c .before .before .before .before .args in
+    (l .inv .0, omega arith, store-entry _ (l .out) r (l .c) _ (l .inv .0) (c .loop2-test .taken) (right-at (a .t1) (a .t2) (a .noise) r (l .c)) (l .inv .2))
 
 add-r : tie.Need-add-r Inv-loop2 μ-loop2 Inv-loop μ-loop
 add-r c = search needs
@@ -106,8 +105,8 @@ loop-again c =
 returns : tie.Need-returns Inv-loop2 μ-loop2 Inv-loop μ-loop
 returns c = all-rows _ _ _ (c .loop-test .left) (c .before .loop .inv .1)
 
-pub right-of-second-spec : {M : Type 1} → statement M
-right-of-second-spec =
+pub right-of-first-spec : {M : Type 1} → statement M
+right-of-first-spec =
     tie.close
     (tie.spec
     Inv-loop2
@@ -121,7 +120,6 @@ right-of-second-spec =
     mul-out-2
     array-read-out
     mul-out-3
-    add-out-2
     mul-out-4
     array-read-out-2
     mul-out-5
@@ -131,7 +129,7 @@ right-of-second-spec =
     mul-out-7
     array-read-out-5
     mul-out-8
-    add-out-3
+    add-out-2
     mul-out-9
     array-write-out
     add-c

@@ -1,4 +1,5 @@
-// Correction of the covariance: the floor, then Joseph's form. A function for each channel, so that the place of its phase is a constant.
+// Module 3 of the scope: the covariance after a correction: the floor, then Joseph's form. A function for each channel, so that the place of its phase is a
+// constant and all of it is compiled in one piece without copies.
 ghost use mathlib.Core.Path.{_≡_};
 ghost use Rattle.covariance.specs.Correction.{josephLeft, josephRight, corrected};
 use covariance::correction::floor_diagonal;

@@ -1,22 +1,21 @@
--- `left_of_first` is (I − K·h)·P at state 0. The invariants: the rows above r, and row r up to column c, are stored.
+-- `left_of_second` is (I − K·h)·P at state 3. The invariants: the rows above r, and row r up to column c, are stored.
 use Prim.Native.Nat.{_≤_, _<_, _+_, _-_, _*_}
 use mathlib.Core.Path.{refl}
 use native.Mathlib.Omega.{arith}
 use borrow.Author.Needs.{needs}
 use Rattle.covariance.specs.Correction.{josephLeftAt}
 use Rattle.covariance.proofs.Filling.{Rows, no-rows, store-entry, next-row, all-rows}
-use Rattle.stepping.proofs.FirstPhase.{left-at}
-use Rattle.stepping.proofs.joseph.left_of_first.Statement.{statement}
-use Rattle.stepping.proofs.joseph.left_of_first.Tie as tie
+use Rattle.covariance_joseph.proofs.left_of_second.Statement.{statement}
+use Rattle.covariance_joseph.proofs.left_of_second.Tie as tie
 
 abbrev Inv-loop2 : tie.InvT-loop2
-Inv-loop2 p k out₀ r c₀ out c = (r < 6) × (c ≤ 6) × Rows (josephLeftAt p 0 k) out (6 * r + c)
+Inv-loop2 p k out₀ r c₀ out c = (r < 6) × (c ≤ 6) × Rows (josephLeftAt p 3 k) out (6 * r + c)
 
 abbrev μ-loop2 : tie.MeasureT-loop2
 μ-loop2 p k out₀ r c₀ out c = 6 - c
 
 abbrev Inv-loop : tie.InvT-loop
-Inv-loop p k out₀ r₀ out r = (r ≤ 6) × Rows (josephLeftAt p 0 k) out (6 * r + 0)
+Inv-loop p k out₀ r₀ out r = (r ≤ 6) × Rows (josephLeftAt p 3 k) out (6 * r + 0)
 
 abbrev μ-loop : tie.MeasureT-loop
 μ-loop p k out₀ r₀ out r = 6 - r
@@ -45,6 +44,9 @@ mul-out-3 c = search needs
 array-read-out-2 : tie.Need-array-read-out-2 Inv-loop2 μ-loop2 Inv-loop μ-loop
 array-read-out-2 c = search needs
 
+add-out-2 : tie.Need-add-out-2 Inv-loop2 μ-loop2 Inv-loop μ-loop
+add-out-2 c = search needs
+
 mul-out-4 : tie.Need-mul-out-4 Inv-loop2 μ-loop2 Inv-loop μ-loop
 mul-out-4 c = search needs
 
@@ -54,8 +56,8 @@ array-read-out-3 c = search needs
 mul-out-5 : tie.Need-mul-out-5 Inv-loop2 μ-loop2 Inv-loop μ-loop
 mul-out-5 c = search needs
 
-add-out-2 : tie.Need-add-out-2 Inv-loop2 μ-loop2 Inv-loop μ-loop
-add-out-2 c = search needs
+add-out-3 : tie.Need-add-out-3 Inv-loop2 μ-loop2 Inv-loop μ-loop
+add-out-3 c = search needs
 
 mul-out-6 : tie.Need-mul-out-6 Inv-loop2 μ-loop2 Inv-loop μ-loop
 mul-out-6 c = search needs
@@ -73,8 +75,7 @@ loop2-again : tie.Need-loop2-again Inv-loop2 μ-loop2 Inv-loop μ-loop
 loop2-again c =
     let l = c .before .loop2 in
     let r = c .before .before .before .loop .r in
-    let a = c .before .before .before .before .args in
-    (l .inv .0, omega arith, store-entry _ (l .out) r (l .c) _ (l .inv .0) (c .loop2-test .taken) (left-at (a .t1) (a .t2) r (l .c)) (l .inv .2))
+    (l .inv .0, omega arith, store-entry _ (l .out) r (l .c) _ (l .inv .0) (c .loop2-test .taken) refl (l .inv .2))
 
 add-r : tie.Need-add-r Inv-loop2 μ-loop2 Inv-loop μ-loop
 add-r c = search needs
@@ -90,8 +91,8 @@ loop-again c =
 returns : tie.Need-returns Inv-loop2 μ-loop2 Inv-loop μ-loop
 returns c = all-rows _ _ _ (c .loop-test .left) (c .before .loop .inv .1)
 
-pub left-of-first-spec : {M : Type 1} → statement M
-left-of-first-spec =
+pub left-of-second-spec : {M : Type 1} → statement M
+left-of-second-spec =
     tie.close
     (tie.spec
     Inv-loop2
@@ -106,10 +107,11 @@ left-of-first-spec =
     array-read-out
     mul-out-3
     array-read-out-2
+    add-out-2
     mul-out-4
     array-read-out-3
     mul-out-5
-    add-out-2
+    add-out-3
     mul-out-6
     array-write-out
     add-c

@@ -4,8 +4,8 @@ use mathlib.Core.List.{List}
 use lib.Ieee.{Float}
 use borrow.Author.Needs.{needs}
 use Rattle.covariance.specs.Correction.{josephLeft, josephRight, corrected}
-use Rattle.stepping.proofs.joseph.correct_second.Statement.{statement}
-use Rattle.stepping.proofs.joseph.correct_second.Tie as tie
+use Rattle.covariance_joseph.proofs.correct_second.Statement.{statement}
+use Rattle.covariance_joseph.proofs.correct_second.Tie as tie
 
 floor-diagonal-requires : tie.Need-floor-diagonal-requires
 floor-diagonal-requires c κs = search needs
