@@ -59,10 +59,11 @@ fn value(s: Session, w: &[u8]) -> f64 {
     decimal_of(w)
 }
 
+// No number, which a name that stands for nothing has, compares with none.
 fn compares(sign: u8, x: f64, y: f64) -> bool {
     match sign {
         b'=' => x == y,
-        b'!' => x != y,
+        b'!' => (x < y) | (y < x),
         b'<' => x < y,
         _ => x > y,
     }

@@ -39,7 +39,7 @@ pub struct Session {
     pub answer: Answer,
     pub before: Answer,
     pub held: Answer,
-    // The lock marks of the blocks as decimal digits, the first one highest.
+    // The lock marks of up to nine blocks as decimal digits, the first one highest.
     pub marks: u64,
     // What the last block left of re, im and the first fill of the second list, and whether it changed the window memory.
     pub re: f32,
