@@ -103,7 +103,7 @@ fn of_figures(s: Session, letter: u8) -> f64 {
     match letter {
         b'D' => u64_to_f64(differing(f, g)),
         b'H' => f32_to_f64(f[1] + f[5] + f[9]),
-        _ => f32_to_f64(f[0]),
+        _ => f32_to_f64(f[0] + f[4] + f[8]),
     }
 }
 
