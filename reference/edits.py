@@ -34,7 +34,7 @@ def method(file, name, times):
 
 
 EDITS = [
-    # 01, "What changes shape": the elementary functions are the port's own.
+    # The scope, "What changes shape": the elementary functions are the port's own.
     Edit("ekf.rs", "name the exported functions", r"\A", "use elementary::Ported;\n", builds=PORTED),
     Edit("dsp.rs", "name the exported functions", r"\A", "use elementary::Ported;\n", builds=PORTED),
     method("ekf.rs", "sin", 1),
@@ -49,12 +49,12 @@ EDITS = [
     # The other three roots of dsp.rs are in parts that the port leaves out.
     Edit("dsp.rs", "root of the signal-to-noise estimate", r"\bv\.sqrt\(", "v.ported_sqrt(", builds=PORTED),
 
-    # 01, "What changes shape": the window is a ring in lent memory. As a queue it is the same;
+    # The scope, "What changes shape": the window is a ring in lent memory. As a queue it is the same;
     # only so can a block meet contents that it did not leave there.
     Edit("ekf.rs", "the window in lent memory", r"use std::collections::VecDeque;",
          "use crate::window::Ring as VecDeque;", builds=PORTED),
 
-    # 01: the reference begins at the decimated samples. The caller puts the lists into the
+    # The scope: the reference begins at the decimated samples. The caller puts the lists into the
     # channel and hands over the flag; the callers that hand over raw samples are cut off.
     Edit("dsp.rs", "entry: flag in place of raw samples",
          r"pub fn process_block_with_center\([^)]*\) \{",

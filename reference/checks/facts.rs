@@ -1,5 +1,5 @@
-//! Facts about the source that the port's readers rely on, run on a build. The numbers in
-//! brackets are those of the close reading of document 01 (READING) or 01's own value table.
+//! Facts about the source that the port's readers rely on, and the scope's own value table, run
+//! on a build.
 //!
 //!     facts BUILD
 
@@ -82,7 +82,7 @@ fn is(a: &Answer, locked: u32, tracker: u32, in_fade: u32, count: u64, ended: u3
 
 // ---- arithmetic ----
 
-/// [6.2] constants of the source, as bits.
+/// Constants of the source, as bits.
 fn constants(f: Reference) {
     assert_eq!(hex(1.0 - 0.001), hex(0.999));
     assert_eq!(hex(1.0 - 0.005), hex(0.995));
@@ -94,16 +94,16 @@ fn constants(f: Reference) {
         let diagonal = [0, 1, 2].map(|i| hex(t.p[7 * (3 * block + i)]));
         assert_eq!(diagonal, [hex(1.0).as_str(), "41181880b444c44a", "40f81880b444c44a"]);
     }
-    // [6.8] the two intervals
+    // the two intervals
     let (rate, factor) = (10_020_017.0, 110.0);
     assert_ne!(hex(1.0 / (rate / factor)), hex(factor / rate));
-    // [11, S-8] the wrap to plus half
+    // the wrap to plus half
     let wrap = |v: f64, limit: f64| (v + limit / 2.0).rem_euclid(limit) - limit / 2.0;
     assert_eq!(hex(wrap(-3.1415926535897936, TURN)), hex(std::f64::consts::PI));
     assert_eq!(hex(wrap(-0.7853981633974484, TURN / 4.0)), hex(std::f64::consts::FRAC_PI_4));
 }
 
-/// 01's value table, as far as it is about single functions; [6.1] on 1.98 as f32.
+/// The scope's value table, as far as it is about single functions; 1.98 as f32.
 fn value_table(f: Reference) {
     let surveys: [(&[f32], u64); 6] = [
         (&[1.0, 1.0], 3),
@@ -123,7 +123,7 @@ fn value_table(f: Reference) {
     assert_eq!(f.cancel(2.0, 1.0, 3.0, 0.0), 4.0);
 }
 
-/// Opening: rate limits, fade steps [5.5].
+/// Opening: rate limits, fade steps.
 fn opening(f: Reference) {
     for (rate, refusal) in [(999, 1), (1_000, 0), (100_000, 0), (100_001, 1)] {
         assert_eq!(f.open(&Settings { rate, ..PLAIN }).0, refusal, "rate {rate}");
@@ -136,11 +136,11 @@ fn opening(f: Reference) {
     let (refusal, mut channel) = f.open(&Settings { modulation: 3, bank: 1, two: 1, ratio: f64::NAN, ..PLAIN });
     let b = channel.read();
     assert_eq!((refusal, b.rate, b.factor, b.modulation, b.bank, b.two), (2, 1_000, 1, 0, 0, 0));
-    assert_eq!((b.pll.adaptive, b.pll.dual_lock, b.pll.ratio), (0, 0, 1.0), "[2.5]");
-    assert_eq!(channel.assign(0.0, -0.0, 0.0, 0.0), 0, "[2.2]");
+    assert_eq!((b.pll.adaptive, b.pll.dual_lock, b.pll.ratio), (0, 0, 1.0), "no switches, ratio 1");
+    assert_eq!(channel.assign(0.0, -0.0, 0.0, 0.0), 0, "-0 is a frequency of 0");
 }
 
-/// Every refusal number of the calls, in the order of 01's table [2.1].
+/// Every refusal number of the calls, in the order of the scope's table.
 fn refusals(f: Reference) {
     let open = |s: Settings| f.open(&s).0;
     assert_eq!(open(Settings { factor: 0, modulation: 3, fade: 90_000, ratio: 9.0, ..PLAIN }), 1);
@@ -166,7 +166,7 @@ fn refusals(f: Reference) {
     assert_eq!(refused(2, &[0.0, 0.0], &[0.0], 1), 8, "8 looks at both lists before 9");
     assert_eq!(refused(2, &vec![0.0; 8_194], &[], 1), 8);
     assert_eq!(refused(2, &[f32::NAN, 0.0], &[1.0, 1.0], 1), 9);
-    assert_eq!(refused(2, &[], &[1.0, 1.0], 1), 10, "[2.3]");
+    assert_eq!(refused(2, &[], &[1.0, 1.0], 1), 10, "9 looks at the first list alone");
     assert_eq!(refused(1, &[1024.0f32.next_up(), 0.0], &[], 1), 11);
     assert_eq!(refused(1, &[1024.0, -1024.0], &[], 8_191), 12);
     assert_eq!(refused(1, &[1024.0, -1024.0], &[], 8_192), 0);
@@ -180,7 +180,7 @@ fn fresh(f: Reference, modulation: u64) -> (Tracker, [f64; STRETCH]) {
     (t, window)
 }
 
-/// 01: guard 0, dual lock, metric 0.05: ratio 819 unlocks, 820 does not.
+/// The scope: guard 0, dual lock, metric 0.05: ratio 819 unlocks, 820 does not.
 fn ratio_decides(f: Reference) {
     for (ratio, locked) in [(819.0, 0), (820.0, 1)] {
         let (mut t, mut window) = fresh(f, 0);
@@ -191,7 +191,7 @@ fn ratio_decides(f: Reference) {
     }
 }
 
-/// 01: the 2,049th update after a reset is the first that can unlock.
+/// The scope: the 2,049th update after a reset is the first that can unlock.
 fn guard_counts(f: Reference) {
     let (mut t, mut window) = fresh(f, 0);
     for update in 1..=2_049 {
@@ -201,7 +201,7 @@ fn guard_counts(f: Reference) {
     }
 }
 
-/// [8.1] a zero sample lowers the metric in one quadrant of phase and raises it in three.
+/// A zero sample lowers the metric in one quadrant of phase and raises it in three.
 fn zero_sample(f: Reference) {
     for modulation in 0..2 {
         for (phase, metric) in [(0.5, 0.5005), (2.0, 0.5005), (-0.5, 0.5005), (-2.0, 0.4985)] {
@@ -213,7 +213,7 @@ fn zero_sample(f: Reference) {
     }
 }
 
-/// [7.2] what a lost correction leaves; 01's trap of the infinite phase.
+/// What a lost correction leaves; the scope's trap of the infinite phase.
 fn lost(f: Reference) {
     for (i, bad) in [(0, f64::INFINITY), (4, f64::NAN)] {
         let (mut t, mut window) = fresh(f, 0);
@@ -227,7 +227,7 @@ fn lost(f: Reference) {
     }
 }
 
-/// [7.3] no gain: x and P stay; a NaN on the diagonal becomes the floor.
+/// No gain: x and P stay; a NaN on the diagonal becomes the floor.
 fn no_gain_and_floor(f: Reference) {
     let (mut t, mut window) = fresh(f, 0);
     t.r_meas = f64::NAN;
@@ -241,7 +241,7 @@ fn no_gain_and_floor(f: Reference) {
     assert_eq!(hex(t.p[7]), hex(1e-15));
 }
 
-/// [6.5] the covariance is not exactly symmetric after a correction.
+/// The covariance is not exactly symmetric after a correction.
 fn asymmetry(f: Reference) {
     let mut random = Random::new(11);
     let (mut t, mut window) = fresh(f, 0);
@@ -285,7 +285,7 @@ fn locks(b: &Built) -> [u32; 3] {
 
 fn bank_values(f: Reference) {
     let half = [0.5; 3];
-    // [5.2] one tracker 160 Hz apart prunes nothing: the mean is 107
+    // one tracker 160 Hz apart prunes nothing: the mean is 107
     let near = three(f, [0.0, 0.0, 160.0], half, [1; 3]);
     assert!((f.discrepancy(&near) - 106.67).abs() < 0.01);
     assert_eq!(locks(&settled(f, near).1), [1, 1, 1]);
@@ -294,16 +294,16 @@ fn bank_values(f: Reference) {
     assert!(f.discrepancy(&far) > 150.0);
     let (a, b) = settled(f, far);
     assert_eq!((locks(&b), a.ended), ([1, 1, 1], 1));
-    // [5.3] an infinite frequency in an unlocked tracker hides a discrepancy
+    // an infinite frequency in an unlocked tracker hides a discrepancy
     let apart = [0.0, 1_000.0, 0.0];
     assert_eq!(f.discrepancy(&three(f, apart, half, [1, 1, 0])), 1_000.0);
     assert_eq!(f.discrepancy(&three(f, [0.0, 1_000.0, f64::INFINITY], half, [1, 1, 0])), 0.0);
-    // [5.4] a locked tracker of NaN metric is never chosen
+    // a locked tracker of NaN metric is never chosen
     let (a, _) = settled(f, three(f, [0.0; 3], [f64::NAN, -0.5, -0.75], [1; 3]));
     assert_eq!((a.locked, a.tracker), (1, 1));
     let (a, _) = settled(f, three(f, [0.0; 3], [f64::NAN; 3], [1; 3]));
     assert_eq!((a.locked, a.tracker), (0, NONE));
-    // 01: equal metrics choose the lowest; 1 against 2 at equal metrics drops 2
+    // the scope: equal metrics choose the lowest; 1 against 2 at equal metrics drops 2
     assert_eq!(settled(f, three(f, [0.0; 3], half, [1; 3])).0.tracker, 0);
     let (a, b) = settled(f, three(f, [0.0, 0.0, 500.0], half, [0, 1, 1]));
     assert_eq!((locks(&b), a.tracker), ([0, 1, 0], 1));
@@ -312,7 +312,7 @@ fn bank_values(f: Reference) {
     assert_eq!((a.locked, a.tracker, a.metric), (0, NONE, 0.0));
 }
 
-// ---- flags in every state [1.2] ----
+// ---- flags in every state ----
 
 fn idle(f: Reference) {
     let mut pass = Pass::open(f, Settings { bank: 1, ..PLAIN });
@@ -333,7 +333,7 @@ fn before_start(f: Reference) {
         assert_eq!((a.locked, a.snr, a.frequency), (0, snr, 0.0));
     }
     let a = pass.one(1, &[]);
-    assert_eq!((a.locked, a.snr, a.frequency), (1, -20.0, 137.5e6), "[1.4] an empty list starts");
+    assert_eq!((a.locked, a.snr, a.frequency), (1, -20.0, 137.5e6), "an empty list starts");
 }
 
 fn locked_without_bank(f: Reference) {
@@ -345,7 +345,7 @@ fn locked_without_bank(f: Reference) {
         assert_eq!((a.locked, hex(a.phase), hex(a.frequency)), (0, hex(started.phase), hex(started.frequency)));
         assert_eq!(pass.channel.read().pll.locked, stays, "flag {flag}");
     }
-    // [1.8] lost stays lost without a bank, not with one
+    // lost stays lost without a bank, not with one
     for (bank, marks) in [(0, "1100000"), (1, "1101111")] {
         let mut pass = Pass::assigned(f, Settings { bank, ..PLAIN });
         let flags = [1, 1, 3, 1, 1, 1, 1];
@@ -353,7 +353,7 @@ fn locked_without_bank(f: Reference) {
             flags.map(|flag| pass.one(flag, &if flag == 1 { steady(20) } else { vec![] }).locked.to_string()).concat();
         assert_eq!(got, marks);
     }
-    // [1.6] flag 0 with a strong list holds the next start back
+    // flag 0 with a strong list holds the next start back
     let mut pass = Pass::assigned(f, PLAIN);
     pass.one(1, &steady(20));
     assert_eq!(pass.one(0, &steady(20)).snr, 40.0);
@@ -401,7 +401,7 @@ fn fades(f: Reference) {
         let a = pass.one(1, &steady(10));
         is(&a, 1, 0, 1, count, 0);
         assert_ne!(hex(a.phase), hex(last.phase), "the tracker is predicted");
-        assert_eq!(hex(a.metric), hex(first.metric), "[1.5] the metric stands still");
+        assert_eq!(hex(a.metric), hex(first.metric), "the metric stands still");
         last = a;
     }
     is(&pass.one(3, &[]), 0, 0, 1, 5, 0);
@@ -438,7 +438,7 @@ fn history(pass: &mut Pass, random: &mut Random) {
     pass.channel.release();
 }
 
-/// [4.1] on one frequency nothing that a block's answer reads survives a release.
+/// On one frequency nothing that a block's answer reads survives a release.
 fn nothing_survives(f: Reference) {
     for seed in 0..60 {
         let mut random = Random::new(seed);
@@ -476,7 +476,7 @@ fn what_survives(f: Reference) {
     assert!(twelve[0] > 0.5 && twelve[1] == 0.0 && twelve[3] > 1_000.0);
 }
 
-/// [8.2] the two places where the answer's frequency is -0.
+/// The two places where the answer's frequency is -0.
 fn negative_zero(f: Reference) {
     let mut pass = Pass::open(f, Settings { two: 1, ..PLAIN });
     pass.channel.assign(137.5e6, 0.0, 0.0, 400e6);
@@ -490,7 +490,7 @@ fn negative_zero(f: Reference) {
     assert_eq!((a.locked, hex(a.frequency)), (0, hex(-0.0)));
 }
 
-/// [5.1] the bank's trackers are equal while locked.
+/// The bank's trackers are equal while locked.
 fn trackers_equal(f: Reference) {
     for two in 0..2 {
         let mut pass = Pass::open(f, Settings { bank: 1, two, ratio: 2.5, ..PLAIN });
@@ -513,7 +513,7 @@ fn trackers_equal(f: Reference) {
     }
 }
 
-/// [1.9] a start inside a fade whose lock goes in the same block: the count goes on.
+/// A start inside a fade whose lock goes in the same block: the count goes on.
 fn start_in_fade(f: Reference) {
     let mut pass = Pass::assigned(f, Settings { bank: 1, ..PLAIN });
     let (_, first) = lose(&mut pass);

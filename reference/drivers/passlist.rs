@@ -1,4 +1,4 @@
-//! A pass text on standard input, its list on standard output, as document 01 writes both.
+//! A pass text on standard input, its list on standard output, as the scope writes both.
 //!
 //!     passlist [--build exported|platform|counted]
 //!

@@ -1,4 +1,4 @@
-//! The matrices that the source names, with the order of sums that document 01 states.
+//! The matrices that the source names, with the order of sums that the scope states.
 //!
 //! Every product sums in ascending index and begins with its first product: no zero
 //! stands in front, so a sum of -0 terms is -0.

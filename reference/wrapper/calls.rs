@@ -1,4 +1,4 @@
-//! The five calls of document 01 over the patched channel, with their refusals.
+//! The five calls of the scope over the patched channel, with their refusals.
 
 use crate::dsp::{ChannelStatus, DemodChannel, Modulation};
 use crate::ekf::CarrierPllEkf;

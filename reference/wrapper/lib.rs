@@ -1,4 +1,4 @@
-//! One build of the patched Rust, with the calls of document 01 around it.
+//! One build of the patched Rust, with the calls of the scope around it.
 //!
 //! The build script copies this folder beside the patched text (ekf.rs, dsp.rs, survey.rs).
 

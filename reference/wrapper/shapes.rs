@@ -15,7 +15,7 @@ pub struct Settings {
     pub ratio: f64,
 }
 
-/// A block's answer, in the order of document 01.
+/// A block's answer, in the order of the scope.
 #[repr(C)]
 #[derive(Clone, Copy, Debug, Default)]
 pub struct Answer {

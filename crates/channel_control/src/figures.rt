@@ -1,8 +1,8 @@
 // Figures: what describes the bank's trackers.
 ghost use mathlib.Core.Path.{_≡_};
 ghost use Rattle.channel_model.specs.Figures as model;
+use bank_selection::features::collect_tracker_features;
 use channel_model::Channel;
-use selection::features::collect_tracker_features;
 
 // Twelve zeros without a bank.
 pub fn figures(c: Channel) -> [f32; 12]

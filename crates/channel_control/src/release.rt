@@ -3,12 +3,12 @@ ghost use mathlib.Core.Path.{_≡_};
 ghost use Rattle.channel_model.specs.Values.{unlocked};
 ghost use Rattle.channel_model.specs.Opening.{restingBank};
 ghost use Rattle.channel_model.specs.Releasing.{keptCarriers, released};
-use bank::state::EkfTrackingBank;
+use bank_model::state::EkfTrackingBank;
+use channel_answer::values::unlock;
 use channel_model::Carriers;
 use channel_model::Channel;
 use channel_model::Reading;
 use channel_model::Status;
-use readout::values::unlock;
 
 // The first target goes. The others stay, and are not read before the next assign sets them.
 fn kept_carriers(a: Carriers) -> Carriers

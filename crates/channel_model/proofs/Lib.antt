@@ -1,1 +1,3 @@
+-- Demand 1, and what a release forgets.
 pub mod Demand1
+pub mod Forgetting

@@ -1,11 +1,11 @@
--- "A block's answer" (01, module 9): the channel's state after the call. Definitions only.
+-- "A block's answer" (the scope, module 9): the channel's state after the call. Definitions only.
 use Prim.Native.Nat.{ℕ}
 use mathlib.Core.Bool.{Bool, true, false, cond, _&&_}
 use lib.Ieee.{Float}
-use Rattle.covariance.specs.Float64 as float
-use Rattle.bank.specs.declared.state.EkfTrackingBank.{EkfTrackingBank}
-use Rattle.bank.specs.Choice.{numbered}
-use Rattle.bank.specs.Fade.{inUse}
+use Rattle.ieee754.specs.Binary64 as float
+use Rattle.bank_model.specs.declared.state.EkfTrackingBank.{EkfTrackingBank}
+use Rattle.bank_model.specs.Choice.{numbered}
+use Rattle.bank_model.specs.Fade.{inUse}
 use Rattle.channel_model.specs.declared.Channel.{Channel}
 use Rattle.channel_model.specs.declared.Answer.{Answer}
 

@@ -1,17 +1,18 @@
--- Assign (01, module 9; refusals 5 and 6): "it sets nominal, both targets and `frequency2`, and leaves Idle". Definitions only.
+-- Assign (the scope, module 9; refusals 5 and 6): "it sets nominal, both targets and `frequency2`, and leaves Idle". Definitions only.
 use Prim.Native.Nat.{ℕ, zero, suc}
 use mathlib.Core.Bool.{Bool, true, false, cond, _&&_, _||_}
-use lib.Ieee.{Float, binary64, ofBits, le, eq}
-use Rattle.covariance.specs.Float64 as float
+use lib.Ieee.{Float, le, eq}
+use Rattle.ieee754.specs.Binary64 as float
 use Rattle.channel_model.specs.declared.Status.{Status}
 use Rattle.channel_model.specs.declared.Status.the-variants.{Idle, Assigned}
 use Rattle.channel_model.specs.declared.Carriers.{Carriers}
 use Rattle.channel_model.specs.declared.Channel.{Channel}
 use Rattle.channel_model.specs.declared.Returned.{Returned}
+use Rattle.channel_model.specs.Values.{channelOf}
 
 -- 5: 0 (of either sign), or from 10⁶ to 10¹¹ Hz, so a NaN is refused
 unfoldable pub goodCarrier : Float → Bool
-goodCarrier f = eq f float.zero || (le (ofBits binary64 0x412e_8480_0000_0000) f && le f (ofBits binary64 0x4237_4876_e800_0000))
+goodCarrier f = eq f float.zero || (le float.million f && le f float.hundredBillion)
 
 unfoldable pub goodCarriers : Carriers → Bool
 goodCarriers a = ((goodCarrier (a .nominal) && goodCarrier (a .target)) && goodCarrier (a .target2)) && goodCarrier (a .frequency2)
@@ -24,18 +25,7 @@ unfoldable pub assignRefusal : Carriers → Status → ℕ
 assignRefusal a s = cond (goodCarriers a) (cond (idle s) 0 6) 5
 
 unfoldable pub withCarriers : Channel → Carriers → Channel
-withCarriers c a =
-    record {
-      setup = c .setup;
-      status = Assigned;
-      carriers = a;
-      pll = c .pll;
-      bank = c .bank;
-      «ever_locked» = c .«ever_locked»;
-      «last_snr» = c .«last_snr»;
-      «is_locked» = c .«is_locked»;
-      reading = c .reading;
-    }
+withCarriers c a = channelOf (c .setup) Assigned a (c .pll) (c .bank) (c .«ever_locked») (c .«last_snr») (c .«is_locked») (c .reading)
 
 -- by the refusal number
 unfoldable pub assignedBy : ℕ → Channel → Carriers → Returned

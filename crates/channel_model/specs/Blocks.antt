@@ -1,26 +1,26 @@
--- Block (01, module 9). The step of a block stands apart from its refusals. Definitions only.
+-- Block (the scope, module 9). The step of a block stands apart from its refusals. Definitions only.
 use Prim.Native.Nat.{ℕ, zero, suc}
 use mathlib.Core.Bool.{Bool, true, false}
 use mathlib.Core.List.{List}
 use lib.ListN.{length}
-use lib.Ieee.{Float, binary32, binary64, ofBits, neg}
+use lib.Ieee.{Float, binary32, neg}
 use Rattle.ieee754.specs.Conversion.{convert}
-use Rattle.covariance.specs.Float64 as float
+use Rattle.ieee754.specs.Binary64 as float
 use Rattle.tracker.specs.declared.state.Tracked.{Tracked}
-use Rattle.bank.specs.declared.state.EkfTrackingBank.{EkfTrackingBank}
-use Rattle.bank.specs.Fade.{marked}
-use Rattle.bank.specs.Following.{Lists}
-use Rattle.samples.specs.Normalisation.{normalised}
-use Rattle.snr.specs.MomentEstimate.{snrOf}
+use Rattle.bank_model.specs.declared.state.EkfTrackingBank.{EkfTrackingBank}
+use Rattle.bank_model.specs.Values.{marked}
+use Rattle.bank_model.specs.Following.{Lists}
+use Rattle.channel_samples.specs.Normalisation.{normalised}
+use Rattle.estimate_snr.specs.MomentEstimate.{snrOf}
 use Rattle.channel_model.specs.declared.Answer.{Answer}
 use Rattle.channel_model.specs.declared.Channel.{Channel}
 use Rattle.channel_model.specs.declared.Blocked.{Blocked}
-use Rattle.channel_model.specs.Values.{moved, withSnr, unlocked, allUnlocked}
+use Rattle.channel_model.specs.Values.{channelOf, moved, withSnr, unlocked, allUnlocked}
 use Rattle.channel_model.specs.Assigning.{idle}
 use Rattle.channel_model.specs.Answers.{answerOf, refusedAnswer}
 use Rattle.channel_model.specs.Refusals.{BlockArgs, blockRefusal}
 use Rattle.channel_model.specs.Starting.{started}
-use Rattle.channel_model.specs.Tracking.{Lent, followedBy, shownBy}
+use Rattle.channel_model.specs.Tracking.{ChannelWindows, followedBy, shownBy}
 
 -- What a block call gives back: the answer, the channel, and what stands in the two lists and the window memory.
 pub record Outcome : Type 0 where
@@ -37,33 +37,23 @@ untouched c b w = record { answer = answerOf c; channel = c; first = b .first; s
 -- ---- Idle, and the flags 2, 3 and 4
 
 -- not locked, with an SNR that the next start does not look at
-unfoldable pub muted : Channel → Tracked → Float → Channel
-muted c h snr = moved c h (c .bank) (c .«ever_locked») false (withSnr (c .reading) snr)
+unfoldable pub notLocked : Channel → Tracked → Float → Channel
+notLocked c h snr = moved c h (c .bank) (c .«ever_locked») false (withSnr (c .reading) snr)
 
 -- ---- the flags 0 and 1: an SNR that the next start looks at
 
 -- the SNR shown, and the f32 of it that is remembered
 unfoldable pub remembered : Channel → Float → Channel
 remembered c snr =
-    record {
-      setup = c .setup;
-      status = c .status;
-      carriers = c .carriers;
-      pll = c .pll;
-      bank = c .bank;
-      «ever_locked» = c .«ever_locked»;
-      «last_snr» = convert binary32 snr;
-      «is_locked» = c .«is_locked»;
-      reading = withSnr (c .reading) snr;
-    }
+    channelOf (c .setup) (c .status) (c .carriers) (c .pll) (c .bank) (c .«ever_locked») (convert binary32 snr) (c .«is_locked») (withSnr (c .reading) snr)
 
 -- a bank without a signal: all trackers unlock, none is in use, no fade; the count and the mark of having ended stay
-unfoldable pub silentBank : EkfTrackingBank → EkfTrackingBank
-silentBank b = marked (allUnlocked b) 3 false (b .«fade_counter») (b .«terminated_in_fade»)
+unfoldable pub bankWithoutSignal : EkfTrackingBank → EkfTrackingBank
+bankWithoutSignal b = marked (allUnlocked b) 3 false (b .«fade_counter») (b .«terminated_in_fade»)
 
 -- flag 0: no signal
-unfoldable pub silenced : Channel → List Float → Channel
-silenced c l = remembered (moved c (unlocked (c .pll)) (silentBank (c .bank)) (c .«ever_locked») false (c .reading)) (snrOf l)
+unfoldable pub withoutSignal : Channel → List Float → Channel
+withoutSignal c l = remembered (moved c (unlocked (c .pll)) (bankWithoutSignal (c .bank)) (c .«ever_locked») false (c .reading)) (snrOf l)
 
 -- the second list is normalised with two frequencies
 unfoldable pub secondNormalised : Bool → List Float → List Float
@@ -82,23 +72,23 @@ trackedOver snr c l m w =
     record { answer = answerOf d; channel = d; first = l; second = m; windows = h .1 }
 
 -- flag 1: a signal. The SNR and the start look at the list as it came
-unfoldable pub signalled : Channel → BlockArgs → List Float → Outcome
-signalled c b w =
+unfoldable pub withSignal : Channel → BlockArgs → List Float → Outcome
+withSignal c b w =
     trackedOver (snrOf (b .first)) (started c (b .first)) (normalised (b .first)) (secondNormalised (c .setup .two) (b .second)) w
 
 -- ---- the call
 
 -- by the flag, which is the survey's number: 2 a NaN, 3 clipped, 4 no pairs, with the SNR 0, 0.5 and -5
 unfoldable pub byFlag : ℕ → Channel → BlockArgs → List Float → Outcome
-byFlag zero c b w = untouched (silenced c (b .first)) b w
-byFlag (suc zero) c b w = signalled c b w
-byFlag (suc (suc zero)) c b w = untouched (muted c (unlocked (c .pll)) float.zero) b w
-byFlag (suc (suc (suc zero))) c b w = untouched (muted c (unlocked (c .pll)) (ofBits binary64 0x3fe0_0000_0000_0000)) b w
-byFlag (suc (suc (suc (suc k)))) c b w = untouched (muted c (c .pll) (neg (ofBits binary64 0x4014_0000_0000_0000))) b w
+byFlag zero c b w = untouched (withoutSignal c (b .first)) b w
+byFlag (suc zero) c b w = withSignal c b w
+byFlag (suc (suc zero)) c b w = untouched (notLocked c (unlocked (c .pll)) float.zero) b w
+byFlag (suc (suc (suc zero))) c b w = untouched (notLocked c (unlocked (c .pll)) float.half) b w
+byFlag (suc (suc (suc (suc k)))) c b w = untouched (notLocked c (c .pll) (neg float.five)) b w
 
 -- by whether the channel is Idle: not locked, SNR 0, all else as it was
 unfoldable pub byStatus : Bool → Channel → BlockArgs → List Float → Outcome
-byStatus true c b w = untouched (muted c (c .pll) float.zero) b w
+byStatus true c b w = untouched (notLocked c (c .pll) float.zero) b w
 byStatus false c b w = byFlag (b .flag) c b w
 
 -- by the refusal number: a refused call gives all back as it was

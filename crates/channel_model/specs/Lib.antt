@@ -1,4 +1,4 @@
--- Module 9: the channel. What open, assign, block, release and figures mean.
+-- Module 9: the channel. What open, assign, block, release and figures mean, and demand 1.
 pub mod Values
 pub mod Opening
 pub mod Assigning
@@ -10,3 +10,5 @@ pub mod Refusals
 pub mod Starting
 pub mod Tracking
 pub mod Blocks
+pub mod Calls
+pub mod Demand1

@@ -1,23 +1,25 @@
--- Open (01, module 9; refusals 1 to 4). Definitions only.
+-- Open (the scope, module 9; refusals 1 to 4). Definitions only.
 use Prim.Native.Nat.{ℕ, zero, suc, _*_}
 use mathlib.Core.Bool.{Bool, false, cond, not, _&&_, _||_}
 use lib.Dec.{leb, ltb}
 use lib.IntN.{pos}
-use lib.Ieee.{Float, binary32, binary64, ofBits, ofInt, le, toUnsigned}
-use Rattle.covariance.specs.Float64 as float
-use Rattle.covariance.specs.Float64.{times, over, one}
-use Rattle.measurement.specs.declared.modulation.Modulation.{Modulation}
-use Rattle.measurement.specs.declared.modulation.Modulation.the-variants.{Carrier, Bpsk, Qpsk}
-use Rattle.tracker.specs.declared.state.CarrierPllEkf.{CarrierPllEkf}
+use lib.Ieee.{Float, binary64, ofInt, le, toUnsigned}
+use Rattle.ieee754.specs.Binary32 as float32
+use Rattle.ieee754.specs.Binary64 as float
+use Rattle.ieee754.specs.Binary64.{times, over, one}
+use Rattle.tracker_measurement.specs.declared.modulation.Modulation.{Modulation}
+use Rattle.tracker_measurement.specs.declared.modulation.Modulation.the-variants.{Carrier, Bpsk, Qpsk}
 use Rattle.tracker.specs.declared.state.Tracked.{Tracked}
-use Rattle.tracker.specs.State as tracker
-use Rattle.bank.specs.declared.state.EkfTrackingBank.{EkfTrackingBank}
+use Rattle.tracker.specs.State.{initialTracker}
+use Rattle.bank_model.specs.declared.state.EkfTrackingBank.{EkfTrackingBank}
+use Rattle.bank_model.specs.Values.{bankOf}
 use Rattle.channel_model.specs.declared.Settings.{Settings}
 use Rattle.channel_model.specs.declared.Setup.{Setup}
 use Rattle.channel_model.specs.declared.Status.the-variants.{Idle, Assigned}
 use Rattle.channel_model.specs.declared.Carriers.{Carriers}
 use Rattle.channel_model.specs.declared.Channel.{Channel}
 use Rattle.channel_model.specs.declared.Returned.{Returned}
+use Rattle.channel_model.specs.Values.{channelOf}
 
 -- ---- refusals
 
@@ -27,7 +29,7 @@ badRate rate factor = not (leb 1 factor && leb factor 4096) || not (leb (1000 * 
 
 -- 4: "ratio not within 0.25 to 4", so a NaN is refused
 unfoldable pub badRatio : Float → Bool
-badRatio r = not (le (ofBits binary64 0x3fd0_0000_0000_0000) r && le r (ofBits binary64 0x4010_0000_0000_0000))
+badRatio r = not (le float.quarter r && le r float.four)
 
 -- in the order of their numbers; 0 where none holds
 unfoldable pub openRefusal : Settings → ℕ
@@ -55,68 +57,25 @@ decimatedRate rate factor = over (whole rate) (whole factor)
 
 -- (fade × decimated rate) / 40,000, cut to a whole number
 unfoldable pub fadeSteps : Settings → ℕ
-fadeSteps s = toUnsigned 64 (over (times (whole (s .fade)) (decimatedRate (s .rate) (s .factor))) (ofBits binary64 0x40e3_8800_0000_0000))
-
--- a tracker with the switches and the frequency ratio of the settings
-unfoldable pub withSwitches : CarrierPllEkf → Settings → CarrierPllEkf
-withSwitches t s =
-    record {
-      x = t .x;
-      «q_phase» = t .«q_phase»;
-      «q_freq» = t .«q_freq»;
-      «q_chirp» = t .«q_chirp»;
-      «r_meas» = t .«r_meas»;
-      ts = t .ts;
-      «lock_metric» = t .«lock_metric»;
-      «is_locked» = t .«is_locked»;
-      modulation = t .modulation;
-      «envelope_ema» = t .«envelope_ema»;
-      «adaptive_ekf» = s .adaptive;
-      «dual_lock» = s .«dual_lock»;
-      «pr_pushed» = t .«pr_pushed»;
-      «pr_sum_abs_i» = t .«pr_sum_abs_i»;
-      «pr_sum_q_sq» = t .«pr_sum_q_sq»;
-      «convergence_guard» = t .«convergence_guard»;
-      «frequency_ratio» = s .ratio;
-    }
+fadeSteps s = toUnsigned 64 (over (times (whole (s .fade)) (decimatedRate (s .rate) (s .factor))) float.fortyThousand)
 
 -- a tracker as opening makes each of the four
 unfoldable pub newTracker : Settings → Tracked
 newTracker s =
-    let t = tracker.opened (decimatedRate (s .rate) (s .factor)) (modulationOf (s .modulation)) in
-    record { ekf = withSwitches (t .ekf) s; p = t .p }
+    initialTracker (decimatedRate (s .rate) (s .factor)) (modulationOf (s .modulation)) (s .adaptive) (s .«dual_lock») (s .ratio)
 
 unfoldable pub newSetup : Settings → Setup
 newSetup s = record { rate = s .rate; factor = s .factor; bank = s .bank; two = s .two }
 
 -- a bank at rest: no tracker in use, no fade, not ended
 unfoldable pub restingBank : ℕ → Tracked → Tracked → Tracked → EkfTrackingBank
-restingBank steps t u v =
-    record {
-      t0 = t;
-      t1 = u;
-      t2 = v;
-      «active_idx» = 3;
-      «in_fade» = false;
-      «fade_counter» = 0;
-      «max_fade_steps» = steps;
-      «terminated_in_fade» = false;
-    }
+restingBank steps t u v = bankOf steps t u v 3 false 0 false
 
 -- An idle channel. Opening makes it with no carriers and electron content 0, release with those that it found.
 unfoldable pub idleChannel : Setup → Carriers → Float → Tracked → EkfTrackingBank → Channel
 idleChannel k a electrons h b =
-    record {
-      setup = k;
-      status = Idle;
-      carriers = a;
-      pll = h;
-      bank = b;
-      «ever_locked» = false;
-      «last_snr» = ofBits binary32 0;
-      «is_locked» = false;
-      reading = record { phase = float.zero; frequency = float.zero; snr = float.zero; electrons = electrons };
-    }
+    channelOf k Idle a h b false float32.zero false
+    (record { phase = float.zero; frequency = float.zero; snr = float.zero; electrons = electrons })
 
 unfoldable pub noCarriers : Carriers
 noCarriers = record { nominal = float.zero; target = float.zero; target2 = float.zero; frequency2 = float.zero }

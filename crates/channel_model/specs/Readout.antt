@@ -1,12 +1,12 @@
--- What a tracker shows (01, modules 8 and 9): phase, frequency and electron content. Definitions only.
+-- What a tracker shows (the scope, modules 8 and 9): phase, frequency and electron content. Definitions only.
 use mathlib.Core.Bool.{Bool, true, false, cond}
 use lib.Ieee.{Float, eq}
-use Rattle.covariance.specs.Float64 as float
-use Rattle.covariance.specs.Float64.{plus}
-use Rattle.covariance.specs.Matrix.{el}
+use Rattle.ieee754.specs.Binary64 as float
+use Rattle.ieee754.specs.Binary64.{plus}
+use Rattle.tracker_covariance.specs.Matrix.{el}
 use Rattle.tracker.specs.declared.state.CarrierPllEkf.{CarrierPllEkf}
-use Rattle.bank.specs.Readings.{hertz, phaseAt}
-use Rattle.dispersion.specs.Dispersion.{dispersionFree, electronContent}
+use Rattle.tracker_readings.specs.Readings.{hertz, phaseAt}
+use Rattle.estimate_dispersion.specs.Dispersion.{dispersionFree, electronContent}
 use Rattle.channel_model.specs.declared.Carriers.{Carriers}
 use Rattle.channel_model.specs.declared.Reading.{Reading}
 

@@ -1,11 +1,11 @@
--- The refusals of a block, 7 to 12 (01, "Causes of refusal"), checked in the order of their numbers, each over both lists. Definitions only.
+-- The refusals of a block, 7 to 12 (the scope, "Causes of refusal"), checked in the order of their numbers, each over both lists. Definitions only.
 use Prim.Native.Nat.{ℕ, _%_}
 use mathlib.Core.Bool.{Bool, cond, not, _&&_, _||_}
 use mathlib.Core.List.{List}
 use lib.Dec.{ltb, eqb}
 use lib.ListN.{length}
 use lib.Ieee.{Float}
-use Rattle.samples.specs.Limits.{allInRange}
+use Rattle.channel_samples.specs.Limits.{allInRange}
 
 -- what a block call brings besides the window memory: the flag and the two lists, as they stand at entry
 pub record BlockArgs : Type 0 where

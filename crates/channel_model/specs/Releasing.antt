@@ -1,7 +1,7 @@
--- Release (01, module 9; `reset_to_idle`). The first target, the marks and what is shown are set as opening has them; the trackers are unlocked
+-- Release (the scope, module 9; `reset_to_idle`). The first target, the marks and what is shown are set as opening has them; the trackers are unlocked
 -- and keep all else, which figures shows. Nominal, the second carriers and the electron content stay. No line is added to the source's: after
 -- it nothing of an earlier pass can be read by a block on a one-frequency channel. Definitions only.
-use Rattle.covariance.specs.Float64 as float
+use Rattle.ieee754.specs.Binary64 as float
 use Rattle.channel_model.specs.declared.Carriers.{Carriers}
 use Rattle.channel_model.specs.declared.Channel.{Channel}
 use Rattle.channel_model.specs.Values.{unlocked}

@@ -1,19 +1,20 @@
--- The start of the trackers in a flag 1 block (01, module 9; the source's bootstrap). Definitions only.
+-- The start of the trackers in a flag 1 block (the scope, module 9; the source's bootstrap). Definitions only.
 use Prim.Native.Nat.{ℕ, _*_}
 use mathlib.Core.Bool.{Bool, true, false, not, _&&_, _||_}
 use mathlib.Core.List.{List}
 use lib.ListN.{take}
-use lib.Ieee.{Float, binary32, binary64, ofBits, lt, toUnsigned}
+use lib.Ieee.{Float, binary64, lt, toUnsigned}
+use Rattle.ieee754.specs.Binary32 as float32
 use Rattle.ieee754.specs.Integral.{roundedAway}
-use Rattle.covariance.specs.Float64 as float
-use Rattle.covariance.specs.Float64.{times}
-use Rattle.measurement.specs.declared.modulation.Modulation.{Modulation}
-use Rattle.measurement.specs.declared.modulation.Modulation.the-variants.{Carrier, Bpsk, Qpsk}
+use Rattle.ieee754.specs.Binary64 as float
+use Rattle.ieee754.specs.Binary64.{times}
+use Rattle.tracker_measurement.specs.declared.modulation.Modulation.{Modulation}
+use Rattle.tracker_measurement.specs.declared.modulation.Modulation.the-variants.{Carrier, Bpsk, Qpsk}
 use Rattle.tracker.specs.declared.state.Tracked.{Tracked}
 use Rattle.tracker.specs.State.{resetTo}
-use Rattle.bank.specs.Pruning.{withTrackers}
-use Rattle.correlation.specs.Correlation.{prepared}
-use Rattle.esprit.specs.Esprit.{estimate}
+use Rattle.bank_model.specs.Values.{withTrackers}
+use Rattle.estimate_correlation.specs.Correlation.{prepared}
+use Rattle.estimate_esprit.specs.Esprit.{estimate}
 use Rattle.channel_model.specs.declared.Setup.{Setup}
 use Rattle.channel_model.specs.declared.Channel.{Channel}
 use Rattle.channel_model.specs.Values.{withAll}
@@ -21,11 +22,11 @@ use Rattle.channel_model.specs.Opening.{decimatedRate}
 
 -- `pll_tracker` is not locked, and the channel never was or the last SNR was below 0
 unfoldable pub starts : Channel → Bool
-starts c = not (c .pll .ekf .«is_locked») && (not (c .«ever_locked») || lt (c .«last_snr») (ofBits binary32 0))
+starts c = not (c .pll .ekf .«is_locked») && (not (c .«ever_locked») || lt (c .«last_snr») float32.zero)
 
 -- how many samples the estimate looks at: a hundredth of a second, rounded
 unfoldable pub chunk : Setup → ℕ
-chunk k = toUnsigned 64 (roundedAway binary64 (times (ofBits binary64 0x3f84_7ae1_47ae_147b) (decimatedRate (k .rate) (k .factor))))
+chunk k = toUnsigned 64 (roundedAway binary64 (times float.point01 (decimatedRate (k .rate) (k .factor))))
 
 -- BPSK has a carrier in the samples' squares
 unfoldable pub squares : Modulation → Bool

@@ -1,15 +1,15 @@
--- A flag 1 block, from the started trackers on (01, module 9): the trackers over the samples, each with its own stretch of the window memory,
+-- A flag 1 block, from the started trackers on (the scope, module 9): the trackers over the samples, each with its own stretch of the window memory,
 -- and what they show then. Definitions only.
 use mathlib.Core.Bool.{Bool, true, false, not, _||_}
 use mathlib.Core.List.{List}
 use lib.Ieee.{Float}
-use Rattle.covariance.specs.Float64 as float
-use Rattle.covariance.specs.Float64.{over}
-use Rattle.bank.specs.declared.state.EkfTrackingBank.{EkfTrackingBank}
-use Rattle.bank.specs.Readings.{scale, phaseAt}
-use Rattle.bank.specs.Choice.{numbered}
-use Rattle.bank.specs.Fade.{inUse, finished}
-use Rattle.bank.specs.Following.{Lists, onStretch, bankFollowed}
+use Rattle.ieee754.specs.Binary64 as float
+use Rattle.ieee754.specs.Binary64.{over}
+use Rattle.bank_model.specs.declared.state.EkfTrackingBank.{EkfTrackingBank}
+use Rattle.tracker_readings.specs.Readings.{scale, phaseAt}
+use Rattle.bank_model.specs.Choice.{numbered}
+use Rattle.bank_model.specs.Fade.{inUse, finished}
+use Rattle.bank_model.specs.Following.{Lists, onStretch, bankFollowed}
 use Rattle.channel_model.specs.declared.Setup.{Setup}
 use Rattle.channel_model.specs.declared.Channel.{Channel}
 use Rattle.channel_model.specs.Values.{moved, withAll, withElectrons, unlocked}
@@ -23,11 +23,11 @@ unfoldable pub interval : Setup → Float
 interval k = over (whole (k .factor)) (whole (k .rate))
 
 -- a channel with the window memory
-abbrev pub Lent : Type 0
-Lent = Channel × List Float
+abbrev pub ChannelWindows : Type 0
+ChannelWindows = Channel × List Float
 
 -- with a bank its three trackers take part, without one `pll_tracker`
-unfoldable pub followedBy : Bool → Channel → Lists → List Float → Lent
+unfoldable pub followedBy : Bool → Channel → Lists → List Float → ChannelWindows
 followedBy true c l w = let k = bankFollowed (interval (c .setup)) l (c .bank, w) in (withAll c (c .pll) (k .0), k .1)
 followedBy false c l w = let h = onStretch 0 (interval (c .setup)) false l (c .pll, w) in (withAll c (h .0) (c .bank), h .1)
 

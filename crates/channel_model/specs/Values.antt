@@ -1,27 +1,34 @@
--- What changes in a channel from call to call (01, module 9). Definitions only.
+-- What changes in a channel from call to call (the scope, module 9). Definitions only.
 use mathlib.Core.Bool.{Bool, false}
 use lib.Ieee.{Float}
 use Rattle.tracker.specs.declared.state.Tracked.{Tracked}
 use Rattle.tracker.specs.State.{withLock}
-use Rattle.bank.specs.declared.state.EkfTrackingBank.{EkfTrackingBank}
-use Rattle.bank.specs.Pruning.{withTrackers}
+use Rattle.bank_model.specs.declared.state.EkfTrackingBank.{EkfTrackingBank}
+use Rattle.bank_model.specs.Values.{withTrackers}
+use Rattle.channel_model.specs.declared.Setup.{Setup}
+use Rattle.channel_model.specs.declared.Status.{Status}
+use Rattle.channel_model.specs.declared.Carriers.{Carriers}
 use Rattle.channel_model.specs.declared.Channel.{Channel}
 use Rattle.channel_model.specs.declared.Reading.{Reading}
 
--- trackers, marks and what is shown anew; the setup, the status, the carriers and the remembered SNR stay
-unfoldable pub moved : Channel → Tracked → EkfTrackingBank → Bool → Bool → Reading → Channel
-moved c h b ever locked r =
+-- a channel from its parts: setup, status, carriers, `pll_tracker`, bank, whether it was ever locked, the remembered SNR, whether it is locked, what is shown
+abbrev pub channelOf : Setup → Status → Carriers → Tracked → EkfTrackingBank → Bool → Float → Bool → Reading → Channel
+channelOf k s a h b ever last locked r =
     record {
-      setup = c .setup;
-      status = c .status;
-      carriers = c .carriers;
+      setup = k;
+      status = s;
+      carriers = a;
       pll = h;
       bank = b;
       «ever_locked» = ever;
-      «last_snr» = c .«last_snr»;
+      «last_snr» = last;
       «is_locked» = locked;
       reading = r;
     }
+
+-- trackers, marks and what is shown anew; the setup, the status, the carriers and the remembered SNR stay
+unfoldable pub moved : Channel → Tracked → EkfTrackingBank → Bool → Bool → Reading → Channel
+moved c h b ever locked r = channelOf (c .setup) (c .status) (c .carriers) h b ever (c .«last_snr») locked r
 
 -- the channel with other trackers only
 unfoldable pub withAll : Channel → Tracked → EkfTrackingBank → Channel

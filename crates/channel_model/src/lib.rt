@@ -1,5 +1,5 @@
-// Module 9 of the scope: the values of the channel and of its five calls. What the calls mean is in specs/.
-use bank::state::EkfTrackingBank;
+// Module 9 of the scope: the values of the channel and of its five calls, and in specs/ what the calls mean. There are no functions here.
+use bank_model::state::EkfTrackingBank;
 use tracker::state::Tracked;
 
 // What open takes.

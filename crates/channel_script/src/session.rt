@@ -1,6 +1,6 @@
 // A channel between two calls, and the calls.
 ghost use Prim.Native.Nat.{_≤_};
-use channel::block::block;
+use channel_block::block::block;
 use channel_control::assign::assign;
 use channel_control::figures::figures;
 use channel_control::release::release;
@@ -111,7 +111,7 @@ pub fn new_session() -> Session {
     let carriers = first_carriers();
     let lists = no_lists(0);
     let answer = no_answer();
-    let r = opening::open(settings);
+    let r = channel_open::open(settings);
     let channel = r.channel;
     Session {
         known: true,
@@ -134,7 +134,7 @@ pub fn new_session() -> Session {
 }
 
 fn opened(s: Session) -> Session {
-    let r = opening::open(s.settings);
+    let r = channel_open::open(s.settings);
     let channel = r.channel;
     let mut t = s;
     t.channel = channel;

@@ -1,7 +1,7 @@
 // What is set before a call, by a letter and a number.
 use crate::session::Lists;
 use crate::session::Session;
-use bank::state::EkfTrackingBank;
+use bank_model::state::EkfTrackingBank;
 use channel_model::Carriers;
 use channel_model::Channel;
 use channel_model::Settings;

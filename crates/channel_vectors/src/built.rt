@@ -1,15 +1,15 @@
 // A channel built from plain numbers, which no calls make.
 use crate::calls::next_carriers;
-use bank::state::EkfTrackingBank;
+use bank_model::state::EkfTrackingBank;
 use channel_model::Channel;
 use channel_model::Reading;
 use channel_model::Setup;
 use channel_model::Status;
-use measurement::modulation::Modulation;
-use opening::decimated_rate;
-use opening::modulation_of;
+use channel_open::decimated_rate;
+use channel_open::modulation_of;
 use tracker::state::CarrierPllEkf;
 use tracker::state::Tracked;
+use tracker_measurement::modulation::Modulation;
 use vectors::numbers::next_f32;
 use vectors::numbers::next_f64;
 use vectors::numbers::next_mark;

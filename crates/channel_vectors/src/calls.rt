@@ -1,7 +1,7 @@
 // The calls: each reads its arguments, is made, and its answer is compared with the one that follows.
 ghost use Prim.Native.Nat.{_≤_};
 ghost use lib.ListN.{length};
-use channel::block::block;
+use channel_block::block::block;
 use channel_control::assign::assign;
 use channel_control::figures::figures;
 use channel_control::release::release;
@@ -62,7 +62,7 @@ pub fn next_carriers() -> Carriers {
 
 pub fn replay_open() -> After {
     let settings = next_settings();
-    let r = opening::open(settings);
+    let r = channel_open::open(settings);
     let agrees = is_next_whole(r.refusal);
     let channel = r.channel;
     After { channel, agrees }

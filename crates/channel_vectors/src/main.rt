@@ -35,7 +35,7 @@ fn no_channel() -> Channel {
         fade: 0,
         ratio: 1.0,
     };
-    let r = opening::open(settings);
+    let r = channel_open::open(settings);
     r.channel
 }
 

@@ -1,5 +1,5 @@
 // Whether a channel stands as the Rust's does.
-use bank::state::EkfTrackingBank;
+use bank_model::state::EkfTrackingBank;
 use channel_control::assign::is_idle;
 use channel_model::Carriers;
 use channel_model::Channel;

@@ -13,14 +13,14 @@ fn estimate_holds(squared: bool) -> bool {
     let mut list = [0.0f32; 4096];
     let n = vectors::next_word();
     let k = vectors::next_samples(n.value, &mut list);
-    is_next(esprit::estimate_frequency_esprit(&list[..k], squared, rate))
+    is_next(estimate_esprit::estimate_frequency_esprit(&list[..k], squared, rate))
 }
 
 fn snr_holds() -> bool {
     let mut list = [0.0f32; 4096];
     let n = vectors::next_word();
     let k = vectors::next_samples(n.value, &mut list);
-    is_next(snr::estimate_snr(&list[..k]))
+    is_next(estimate_snr::estimate_snr(&list[..k]))
 }
 
 fn cancel_holds() -> bool {
@@ -28,7 +28,7 @@ fn cancel_holds() -> bool {
     let f2 = next_f64();
     let d1 = next_f64();
     let d2 = next_f64();
-    is_next(dispersion::cancel(f1, f2, d1, d2))
+    is_next(estimate_dispersion::cancel(f1, f2, d1, d2))
 }
 
 // The settings of a two-frequency channel that a bank's vector begins with.
@@ -116,9 +116,9 @@ fn offset(x: f64, scale: f64) -> f64 {
 fn answer_holds(c: Carriers, a: Angles, before: State, after: State) -> bool {
     let f1 = c.target + offset(a.x1, c.scale);
     let f2 = c.target2 + offset(a.x4, c.scale);
-    let frequency = dispersion::cancel(c.nominal, c.frequency2, f1, f2);
+    let frequency = estimate_dispersion::cancel(c.nominal, c.frequency2, f1, f2);
     let old = f64_from_bits(before.electrons);
-    let electrons = dispersion::electron_content(c.target, c.target2, a.x0, a.x3, old);
+    let electrons = estimate_dispersion::electron_content(c.target, c.target2, a.x0, a.x3, old);
     (f64_to_bits(frequency) == after.frequency) & (f64_to_bits(electrons) == after.electrons)
 }
 

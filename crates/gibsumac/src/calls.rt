@@ -2,38 +2,15 @@
 ghost use mathlib.Core.Path.{_≡_};
 ghost use Rattle.sequences.specs.Pairs.{pairs};
 ghost use Rattle.survey.specs.Survey.{surveyOf};
-ghost use Rattle.channel_model.specs.Opening.{opened};
-ghost use Rattle.channel_model.specs.Assigning.{assigned};
-ghost use Rattle.channel_model.specs.Releasing.{released};
-ghost use Rattle.channel_model.specs.Figures.{figures};
-ghost use Rattle.channel_model.specs.Blocks.{blocked};
-ghost use Rattle.interchange.specs.Channels.{plainChannel, realChannel};
-ghost use Rattle.gibsumac.specs.Calls.{plainReturned, leaves, left};
-use channel_model::Answer;
+ghost use Rattle.channel_c_layout.specs.Calls.{openedC, assignedC, leftC, blockedC, releasedC, figuresC};
+use channel_c_layout::plain_calls::PlainBlocked;
+use channel_c_layout::plain_calls::PlainReturned;
+use channel_c_layout::plain_calls::TwelveFigures;
+use channel_c_layout::plain_channel::PlainChannel;
+use channel_c_layout::plain_channel::to_plain_channel;
+use channel_c_layout::plain_channel::to_real_channel;
 use channel_model::Carriers;
 use channel_model::Settings;
-use interchange::plain_channel::PlainChannel;
-use interchange::plain_channel::to_plain_channel;
-use interchange::plain_channel::to_real_channel;
-
-// What open and assign return.
-#[repr(C)]
-pub struct PlainReturned {
-    pub refusal: u64,
-    pub channel: PlainChannel,
-}
-
-// What block returns.
-#[repr(C)]
-pub struct PlainBlocked {
-    pub answer: Answer,
-    pub channel: PlainChannel,
-}
-
-#[repr(C)]
-pub struct TwelveFigures {
-    pub values: [f32; 12],
-}
 
 #[no_mangle]
 pub extern "C" fn gibsumac_survey(raw: &[f32]) -> u64
@@ -44,9 +21,9 @@ pub extern "C" fn gibsumac_survey(raw: &[f32]) -> u64
 
 #[no_mangle]
 pub extern "C" fn gibsumac_open(settings: Settings) -> PlainReturned
-    ensures { λ r. ⌜ r ≡ plainReturned (opened settings) ⌝ }
+    ensures { λ r. ⌜ r ≡ openedC settings ⌝ }
 {
-    let r = opening::open(settings);
+    let r = channel_open::open(settings);
     let c = to_plain_channel(r.channel);
     PlainReturned {
         refusal: r.refusal,
@@ -56,7 +33,7 @@ pub extern "C" fn gibsumac_open(settings: Settings) -> PlainReturned
 
 #[no_mangle]
 pub extern "C" fn gibsumac_assign(channel: PlainChannel, carriers: Carriers) -> PlainReturned
-    ensures { λ r. ⌜ r ≡ plainReturned (assigned (realChannel channel) carriers) ⌝ }
+    ensures { λ r. ⌜ r ≡ assignedC channel carriers ⌝ }
 {
     let real = to_real_channel(channel);
     let r = channel_control::assign::assign(real, carriers);
@@ -75,11 +52,11 @@ pub extern "C" fn gibsumac_block(
     second: &mut [f32],
     windows: &mut [f64],
 ) -> PlainBlocked
-    ensures { λ r. ⌜ left r (now (first .exit)) (now (second .exit)) (now (windows .exit))
-        ≡ leaves (blocked (realChannel channel) (record { flag = flag; first = now (first .entry); second = now (second .entry) }) (now (windows .entry))) ⌝ }
+    ensures { λ r. ⌜ leftC r (now (first .exit)) (now (second .exit)) (now (windows .exit))
+        ≡ blockedC channel flag (now (first .entry)) (now (second .entry)) (now (windows .entry)) ⌝ }
 {
     let real = to_real_channel(channel);
-    let r = channel::block::block(real, flag, first, second, windows);
+    let r = channel_block::block::block(real, flag, first, second, windows);
     let c = to_plain_channel(r.channel);
     let answer = r.answer;
     PlainBlocked { answer, channel: c }
@@ -87,7 +64,7 @@ pub extern "C" fn gibsumac_block(
 
 #[no_mangle]
 pub extern "C" fn gibsumac_release(channel: PlainChannel) -> PlainChannel
-    ensures { λ r. ⌜ r ≡ plainChannel (released (realChannel channel)) ⌝ }
+    ensures { λ r. ⌜ r ≡ releasedC channel ⌝ }
 {
     let real = to_real_channel(channel);
     let released = channel_control::release::release(real);
@@ -96,7 +73,7 @@ pub extern "C" fn gibsumac_release(channel: PlainChannel) -> PlainChannel
 
 #[no_mangle]
 pub extern "C" fn gibsumac_figures(channel: PlainChannel) -> TwelveFigures
-    ensures { λ r. ⌜ r .values ≡ figures (realChannel channel) ⌝ }
+    ensures { λ r. ⌜ r ≡ figuresC channel ⌝ }
 {
     let real = to_real_channel(channel);
     let values = channel_control::figures::figures(real);

@@ -3,55 +3,55 @@ ghost use mathlib.Core.Path.{_≡_};
 ghost use lib.Ieee.{binary32, binary64};
 ghost use Rattle.ieee754.specs.SquareRoot.{sqrt};
 ghost use Rattle.ieee754.specs.Hypotenuse.{hypotenuse, hypotenuseAt};
-ghost use Rattle.sincos.specs.Steps.{sine, cosine};
-ghost use Rattle.arctangent.specs.Steps.{atan2Of};
-ghost use Rattle.logarithm.specs.Steps.{log10Of};
+ghost use Rattle.elementary_sincos.specs.Steps.{sine, cosine};
+ghost use Rattle.elementary_arctangent.specs.Steps.{atan2Of};
+ghost use Rattle.elementary_logarithm.specs.Steps.{log10Of};
 
 #[no_mangle]
 pub extern "C" fn gibsumac_sin(theta: f64) -> f64
     ensures { λ r. ⌜ r ≡ sine theta ⌝ }
 {
-    sincos::sin(theta)
+    elementary_sincos::sin(theta)
 }
 
 #[no_mangle]
 pub extern "C" fn gibsumac_cos(theta: f64) -> f64
     ensures { λ r. ⌜ r ≡ cosine theta ⌝ }
 {
-    sincos::cos(theta)
+    elementary_sincos::cos(theta)
 }
 
 #[no_mangle]
 pub extern "C" fn gibsumac_atan2(y: f64, x: f64) -> f64
     ensures { λ r. ⌜ r ≡ atan2Of y x ⌝ }
 {
-    arctangent::atan2(y, x)
+    elementary_arctangent::atan2(y, x)
 }
 
 #[no_mangle]
 pub extern "C" fn gibsumac_log10(x: f64) -> f64
     ensures { λ r. ⌜ r ≡ log10Of x ⌝ }
 {
-    logarithm::log10(x)
+    elementary_logarithm::log10(x)
 }
 
 #[no_mangle]
 pub extern "C" fn gibsumac_hypot(x: f64, y: f64) -> f64
     ensures { λ r. ⌜ r ≡ hypotenuse x y ⌝ }
 {
-    roots::hypotenuse::hypot(x, y)
+    ieee754_roots::hypotenuse::hypot(x, y)
 }
 
 #[no_mangle]
 pub extern "C" fn gibsumac_hypotf(x: f32, y: f32) -> f32
     ensures { λ r. ⌜ r ≡ hypotenuseAt binary32 x y ⌝ }
 {
-    roots::hypotenuse::hypotf(x, y)
+    ieee754_roots::hypotenuse::hypotf(x, y)
 }
 
 #[no_mangle]
 pub extern "C" fn gibsumac_sqrt(x: f64) -> f64
     ensures { λ r. ⌜ r ≡ sqrt binary64 x ⌝ }
 {
-    roots::square_root::sqrt(x)
+    ieee754_roots::square_root::sqrt(x)
 }

@@ -13,7 +13,7 @@ use lib.Ieee.Fits.{down-pos, nearest-le, round-is}
 use lib.Ieee.Exact.{HasValue}
 use lib.Ieee.Nearest.{closest, closest-same, nearest-ge}
 use lib.Ieee.Scale.{round-same, overflow}
-use Rattle.rounding.proofs.Comparison.{Cmp, cmp, lt-or-le}
+use Rattle.ieee754_rounding.proofs.Comparison.{Cmp, cmp, lt-or-le}
 use Rattle.ieee754.specs.Conversion.{convert}
 use Rattle.ieee754.proofs.Patterns.{size-is, units-bits, units-inf}
 use Rattle.ieee754.proofs.Fields.{signed, value-low, value-normal, value-top}

@@ -1,4 +1,4 @@
--- The definitions of specs/Sqrt.antt: `isqrt n` is the whole part of √n, `roundRoot f n` is what a nearest whole root of the leading digits gives, and no value of the format is nearer to √n. Assumes nothing.
+-- The definitions of specs/SquareRoot.antt: `isqrt n` is the whole part of √n, `roundRoot f n` is what a nearest whole root of the leading digits gives, and no value of the format is nearer to √n. Assumes nothing.
 use mathlib.Core.Path.{_≡_, refl, sym, ap, _∙_, subst}
 use mathlib.Core.Logic.{_⊎_, inl, inr}
 use mathlib.Core.Bool.{Bool, true, false, not, cond}
@@ -10,8 +10,9 @@ use lib.Pow.{pow-add, pow-pos, pow-mono, pow-lt, shl-lt}
 use lib.Arith.{lt-one}
 use lib.Ieee.{Float, Format, prec, low, size, nearest, units}
 use lib.Ieee.Digits.{size-lt}
-use Rattle.ieee754.specs.SquareRoot.{rootDigits, isqrt, roundRoot, NearestRoot}
-use Rattle.rounding.proofs.Comparison.{Cmp, cmp}
+use Rattle.ieee754.specs.SquareRoot.{rootDigits, isqrt, roundRoot}
+use Rattle.ieee754.specs.Code.WholeRoot.{NearestRoot}
+use Rattle.ieee754_rounding.proofs.Comparison.{Cmp, cmp}
 use Rattle.ieee754.proofs.Patterns.{size-is}
 
 -- ---- squares
@@ -142,7 +143,7 @@ near-of M q Ordering·gt P w h =
     one k = omega arith
 
 -- ---- n is M * 4 ^ k, with M of 2 * prec - 1 or 2 * prec digits
-sq-mul : (a b : ℕ) → a * b * (a * b) ≡ a * a * (b * b)
+pub sq-mul : (a b : ℕ) → a * b * (a * b) ≡ a * a * (b * b)
 sq-mul a b = mul-mul-mul-comm a b a b
 
 module _ (f : Format) (M k n : ℕ) (is : n ≡ M * (2 ^ k * 2 ^ k)) (lo : 2 ^ (prec f - 1) * 2 ^ (prec f - 1) ≤ M) (hi : M < 2 ^ prec f * 2 ^ prec f) where

@@ -2,6 +2,7 @@
 pub mod Patterns
 pub mod Fields
 pub mod IntegerRoot
+pub mod LeadingZeros
 pub mod SquareRootCases
 pub mod NearestRoot
 pub mod SignCases
@@ -9,3 +10,4 @@ pub mod SizeBits
 pub mod TruncationCases
 pub mod RoundAwayCases
 pub mod ConversionCases
+pub mod WideningCases

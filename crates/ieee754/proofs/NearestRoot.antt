@@ -4,20 +4,18 @@ use mathlib.Core.Path.{_≡_, refl, sym, ap, _∙_, subst}
 use mathlib.Core.Logic.{inl, inr}
 use mathlib.Core.Bool.{false}
 use Prim.Native.Nat.{ℕ, zero, suc, _+_, _-_, _*_, _/_, _%_, _^_, _≤_, _<_}
-use native.Mathlib.Nat.{le-trans, le-of-eq, le-of-lt, lt-of-le-of-lt, lt-of-lt-of-le, lt-irrefl, eq-or-lt-of-le, mul-le-mul, mul-le-mul-right, mul-le-mul-left, mul-lt-mul-of-pos-right, lt-of-mul-lt-mul-right, mul-pos, mul-one, mul-assoc, mul-mul-mul-comm, add-mul, le-add-right, mod-lt, div-lt-iff-lt-mul}
+use native.Mathlib.Nat.{le-trans, le-of-eq, le-of-lt, lt-of-le-of-lt, lt-of-lt-of-le, lt-irrefl, eq-or-lt-of-le, mul-le-mul, mul-le-mul-right, mul-le-mul-left, mul-lt-mul-of-pos-right, lt-of-mul-lt-mul-right, mul-pos, mul-one, mul-assoc, add-mul, le-add-right, mod-lt, div-lt-iff-lt-mul}
 use native.Mathlib.Omega.{arith}
 use lib.Pow.{pow-add, pow-pos, pow-mono, shl-lt}
 use lib.Ieee.{Float, Format, binary32, binary64, prec, emax, low, hid, ones, size, ofBits}
 use lib.Ieee.Digits.{size-lt, size-le, size-reaches}
 use lib.Ieee.Exact.{HasValue, units-val}
-use Rattle.rounding.proofs.Comparison.{lt-or-le}
-use Rattle.ieee754.specs.SquareRoot.{NearestRoot, NearestValue, sqrt}
-use Rattle.ieee754.proofs.IntegerRoot.{root-at, some-root, near-lo, near-hi}
+use Rattle.ieee754_rounding.proofs.Comparison.{lt-or-le}
+use Rattle.ieee754.specs.SquareRoot.{NearestValue, sqrt}
+use Rattle.ieee754.specs.Code.WholeRoot.{NearestRoot}
+use Rattle.ieee754.proofs.IntegerRoot.{sq-mul, root-at, some-root, near-lo, near-hi}
 use Rattle.ieee754.proofs.Fields.{signed, infinity, hid-pos, value-low, value-normal}
 use Rattle.ieee754.proofs.SquareRootCases.{sqrt-value}
-
-sq-mul : (a b : ℕ) → a * b * (a * b) ≡ a * a * (b * b)
-sq-mul a b = mul-mul-mul-comm a b a b
 
 sq-lt : (a b : ℕ) → a < b → a * a < b * b
 sq-lt a b h = lt-of-le-of-lt (mul-le-mul-left a (le-of-lt h)) (mul-lt-mul-of-pos-right h (lt-of-le-of-lt Prim.Native.Nat.zero-le h))

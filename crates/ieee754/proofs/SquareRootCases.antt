@@ -1,25 +1,24 @@
 -- `sqrt binary64` at each kind of pattern, and the pattern of the root. Assumes nothing.
 use mathlib.Core.Path.{_≡_, refl, sym, ap, _∙_, subst}
-use mathlib.Core.Logic.{_⊎_, inl, inr}
-use mathlib.Core.Bool.{Bool, true, false, not, cond, true≢false}
+use mathlib.Core.Logic.{inl, inr}
+use mathlib.Core.Bool.{Bool, true, false, cond, true≢false}
 use Prim.Native.Nat.{ℕ, zero, suc, _+_, _-_, _*_, _/_, _%_, _^_, _≤_, _<_}
-use native.Mathlib.Nat.{le-trans, le-of-eq, lt-of-le-of-lt, lt-of-lt-of-le, lt-of-not-le, le-of-suc-le-suc, lt-irrefl, mul-le-mul, mul-le-mul-right, mul-le-mul-left, mul-pos, mul-one, mul-comm, mul-assoc, mul-left-comm, zero-add, zero-mul, mul-div-cancel, mod-eq-of-lt, mod-lt}
+use native.Mathlib.Nat.{le-of-eq, lt-of-lt-of-le, lt-irrefl, mul-pos, mul-one, mul-assoc, zero-add, zero-mul, mul-div-cancel, mod-lt}
 use native.Mathlib.Omega.{arith}
-use lib.IntN.{pos}
-use lib.Dec.{T, eqb, lit≤}
-use lib.Count.{leadingZeros, leading-top}
+use lib.Dec.{T, eqb}
+use lib.Count.{leadingZeros}
 use lib.Pow.{pow-add, pow-pos, pow-mono, shl-lt}
-use lib.Ieee.{Float, nan, inf, fin, Format, binary64, low, up, down, units, round, ofBits, toBits, fits, isNan, nanBits, div, ne}
+use lib.Ieee.{Float, nan, inf, fin, Format, binary64, low, up, down, ofBits, toBits, fits}
 use lib.Ieee.Fits.{down-pos}
 use lib.Ieee.Bits.{ofBits-toBits, toBits-lt}
 use lib.Ieee.Exact.{HasValue}
-use lib.Ieee.Scale.{overflow}
-use lib.Ieee.Compare.{differs-from-itself}
-use Rattle.rounding.proofs.Comparison.{lt-or-le}
-use Rattle.ieee754.specs.SquareRoot.{NearestRoot, roundRoot, sqrt}
+use Rattle.ieee754_rounding.proofs.Comparison.{lt-or-le}
+use Rattle.ieee754.specs.SquareRoot.{roundRoot, sqrt}
+use Rattle.ieee754.specs.Code.WholeRoot.{NearestRoot}
 use Rattle.ieee754.proofs.IntegerRoot.{root-at, near-lo, near-hi}
 use Rattle.ieee754.proofs.Patterns.{units-bits}
 use Rattle.ieee754.proofs.Fields.{signed, value-low, value-normal, value-top}
+use Rattle.ieee754.proofs.LeadingZeros.{zeros, whole}
 
 -- ---- the pattern of the root of m * 2 ^ (p + 52)
 module _ (m p : ℕ) (lo : 2 ^ 52 ≤ m) (hi : m < 2 ^ 53) (P : p < 3072) where
@@ -189,37 +188,10 @@ module _ (x : Float) (F : T (fits binary64 x)) where
     abbrev lz : ℕ
     lz = leadingZeros 64 bits
 
-    t : (j : ℕ) × (lz + suc j ≡ 64) × (2 ^ j ≤ bits) × (bits < 2 ^ suc j)
-    t = leading-top 64 bits P bits-lt
-
-    pow-back : (i p : ℕ) → 2 ^ i < 2 ^ p → i < p
-    pow-back i p h = lt-of-not-le (λ (g : p ≤ i). lt-irrefl (2 ^ i) (lt-of-lt-of-le h (pow-mono g)))
-
-    pub zeros : (12 ≤ lz) × (lz ≤ 63)
-    zeros = let e = t .1 in let l : t .0 < 52 = pow-back (t .0) 52 (lt-of-le-of-lt (t .2) S) in (omega arith, omega arith)
-
-    join : t .0 + (lz - 11) ≡ 52
-    join = let e = t .1 in let z = zeros in omega arith
-
-    up-lo : 2 ^ 52 ≤ bits * 2 ^ (lz - 11)
-    up-lo = le-trans (le-of-eq (ap (λ (z : ℕ). 2 ^ z) (sym join) ∙ pow-add 2 (t .0) (lz - 11))) (mul-le-mul-right (2 ^ (lz - 11)) (t .2))
-
-    up-hi : bits * 2 ^ (lz - 11) < 2 ^ 53
-    up-hi = lt-of-lt-of-le (shl-lt (suc (t .0)) (lz - 11) (t .3)) (pow-mono sum)
-      where
-        sum : suc (t .0) + (lz - 11) ≤ 53
-        sum = let j = join in omega arith
-
-    is : bits * 2 ^ (lz - 11) % 2 ^ 64 ≡ bits * 2 ^ (lz - 11)
-    is = mod-eq-of-lt (lt-of-lt-of-le up-hi (lit≤ tt))
-
-    pub shifted : (2 ^ 52 ≤ bits * 2 ^ (lz - 11) % 2 ^ 64) × (bits * 2 ^ (lz - 11) % 2 ^ 64 < 2 ^ 53)
-    shifted = (subst (λ (z : ℕ). 2 ^ 52 ≤ z) (sym is) up-lo, subst (λ (z : ℕ). z < 2 ^ 53) (sym is) up-hi)
-
     pub when-subnormal : sqrt binary64 x ≡ roundRoot binary64 (bits * 2 ^ (lz - 11) % 2 ^ 64 * 2 ^ (1022 - (lz - 11) + 52))
     when-subnormal =
         sqrt-value binary64 x (bits * 2 ^ 0) (subst (λ (z : Float). HasValue z false (bits * 2 ^ 0) (2 ^ 1074)) read (value-low binary64 false bits S)) (mul-pos P (pow-pos 0))
-        ∙ ap (roundRoot binary64) (ap (λ (z : ℕ). z * 2 ^ 1074) (mul-one bits) ∙ ap (λ (z : ℕ). bits * 2 ^ z) (sym (sum lz (zeros .1))) ∙ ap (λ (z : ℕ). bits * z) (pow-add 2 (lz - 11) (1022 - (lz - 11) + 52)) ∙ sym (mul-assoc bits (2 ^ (lz - 11)) (2 ^ (1022 - (lz - 11) + 52))) ∙ ap (λ (z : ℕ). z * 2 ^ (1022 - (lz - 11) + 52)) (sym is))
+        ∙ ap (roundRoot binary64) (ap (λ (z : ℕ). z * 2 ^ 1074) (mul-one bits) ∙ ap (λ (z : ℕ). bits * 2 ^ z) (sym (sum lz (zeros bits P S .1))) ∙ ap (λ (z : ℕ). bits * z) (pow-add 2 (lz - 11) (1022 - (lz - 11) + 52)) ∙ sym (mul-assoc bits (2 ^ (lz - 11)) (2 ^ (1022 - (lz - 11) + 52))) ∙ ap (λ (z : ℕ). z * 2 ^ (1022 - (lz - 11) + 52)) (sym (whole bits P S)))
       where
         sum : (l : ℕ) → l ≤ 63 → l - 11 + (1022 - (l - 11) + 52) ≡ 1074
         sum l h = omega arith

@@ -6,3 +6,6 @@ pub mod Sign
 pub mod Remainder
 pub mod Integral
 pub mod Hypotenuse
+pub mod Binary32
+pub mod Binary64
+pub mod Code

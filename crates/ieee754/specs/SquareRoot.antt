@@ -1,7 +1,7 @@
 -- Module 1: the square root of IEEE 754-2019 (5.4.1), rounded to nearest, ties to even. For any format. Definitions only.
 -- proofs/NearestRoot.antt shows of `sqrt` that every other value of the format is farther from the root.
-use Prim.Native.Nat.{ℕ, zero, suc, _+_, _-_, _*_, _/_, _^_, _≤_, _<_, compare}
-use mathlib.Core.Bool.{Bool, true, false, cond}
+use Prim.Native.Nat.{ℕ, zero, suc, _+_, _-_, _*_, _/_, _^_, _<_, compare}
+use mathlib.Core.Bool.{false, cond}
 use lib.Dec.{leb}
 use lib.Ieee.{Float, nan, inf, fin, Format, prec, low, up, down, size, nearest, units}
 
@@ -34,11 +34,6 @@ sqrt f nan = nan
 sqrt f (inf s) = cond s nan (inf false)
 sqrt f (fin s zero e) = fin s zero e
 sqrt f (fin s (suc m) e) = cond s nan (roundRoot f (suc m * up e * 2 ^ low f / down e * 2 ^ low f))
-
--- r is the whole number nearest to √M: r - 1 / 2 < √M < r + 1 / 2, squared. (A whole M's root is never halfway.)
-pub record NearestRoot (M r : ℕ) : Type 0 where
-  pub above : M ≤ r * r + r
-  pub below : r * r < M + r
 
 -- g units of f's smallest value are nearer to √n units than any other value of the format, which is a * 2 ^ j units with an a below
 -- 2 ^ prec: what lies halfway between the two is past √n. Both sides are squared, and taken four times.

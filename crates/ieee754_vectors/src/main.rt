@@ -14,7 +14,7 @@ fn f32_at(b: u64) -> f32 {
 fn of_one(op: u8, a: u64) -> u64 {
     let x = f64_from_bits(a);
     match op {
-        b's' => f64_to_bits(roots::square_root::sqrt(x)),
+        b's' => f64_to_bits(ieee754_roots::square_root::sqrt(x)),
         b'n' => f32_to_bits(ieee754::conversion::f64_to_f32(x)) as u64,
         b'w' => f64_to_bits(ieee754::conversion::f32_to_f64(f32_at(a))),
         b'u' => f64_to_bits(ieee754::conversion::u64_to_f64(a)),
@@ -28,8 +28,8 @@ fn of_more(op: u8, a: u64, b: u64, c: u64) -> u64 {
     let x = f64_from_bits(a);
     let y = f64_from_bits(b);
     match op {
-        b'h' => f64_to_bits(roots::hypotenuse::hypot(x, y)),
-        b'g' => f32_to_bits(roots::hypotenuse::hypotf(f32_at(a), f32_at(b))) as u64,
+        b'h' => f64_to_bits(ieee754_roots::hypotenuse::hypot(x, y)),
+        b'g' => f32_to_bits(ieee754_roots::hypotenuse::hypotf(f32_at(a), f32_at(b))) as u64,
         b'e' => f64_to_bits(ieee754::remainder::rem_euclid(x, y)),
         b'm' => f64_to_bits(ieee754::order::max(x, y)),
         b'c' => f64_to_bits(ieee754::order::clamp(x, y, f64_from_bits(c))),

@@ -2,4 +2,4 @@
 pub mod Opening
 pub mod Judging
 pub mod Listing
-pub mod Buffers
+pub mod Code

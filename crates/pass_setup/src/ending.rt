@@ -1,14 +1,14 @@
 // The end of the input.
 ghost use mathlib.Core.Path.{_≡_};
-ghost use Rattle.pass_setup.specs.Listing.{ended, isEnded};
-ghost use Rattle.pass_setup.specs.Buffers.{printed, asPrinted};
+ghost use Rattle.pass_setup.specs.Listing.{inputEnded};
+ghost use Rattle.pass_setup.specs.Code.Buffers.{printed, asPrinted, isEnded};
 use crate::pass::Judged;
 use crate::pass::Pass;
 use crate::pass::Stage;
 
 // The end of the input, with what stands after the last newline.
 pub fn finish(p: Pass, left: &[u8], out: &mut [u8], at: usize) -> Judged
-    ensures { λ r. ⌜ asPrinted r (now (out .exit)) ≡ printed (ended p (now (left .entry))) at (now (out .entry)) ⌝ }
+    ensures { λ r. ⌜ asPrinted r (now (out .exit)) ≡ printed (inputEnded (p .stage) p (now (left .entry))) at (now (out .entry)) ⌝ }
 {
     let stage = p.stage;
     match stage {

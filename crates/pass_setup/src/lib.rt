@@ -1,5 +1,5 @@
-// A pass text (the scope, "The pass text and its list"): a pass between two lines, its first three lines, which open the channel, and the end of the
-// input. specs/ has what every line means and, in Listing.antt, the whole list of a whole text.
+// A pass text: all definitions of its list, and the code of its first three lines and of its end (the scope, "The pass text and its list").
+// The first three lines open the channel. specs/ has what every line means and, in Listing.antt, the whole list of a whole text.
 pub mod ending;
 pub mod pass;
 pub mod setup;

@@ -1,7 +1,7 @@
 // A pass between two lines, and the two ways in which a line leaves it: taken, or refused.
 ghost use mathlib.Core.Path.{_≡_};
-ghost use Rattle.pass_setup.specs.Judging.{counted, newPass, refused, taken};
-ghost use Rattle.pass_setup.specs.Buffers.{printed, asPrinted};
+ghost use Rattle.pass_setup.specs.Judging.{counted, newPass, lineRefused, lineTaken};
+ghost use Rattle.pass_setup.specs.Code.Buffers.{printed, asPrinted};
 use channel_model::Channel;
 
 // Which line comes next.
@@ -48,7 +48,7 @@ pub fn count(n: u64) -> u64
 pub fn new_pass() -> Pass
     ensures { λ r. ⌜ r ≡ newPass ⌝ }
 {
-    let o = opening::open(channel_model::Settings {
+    let o = channel_open::open(channel_model::Settings {
         rate: 0,
         factor: 0,
         modulation: 0,
@@ -71,10 +71,10 @@ pub fn new_pass() -> Pass
 
 // The line is refused, which ends the run.
 pub fn refuse(p: Pass, number: u64, out: &mut [u8], at: usize) -> Judged
-    ensures { λ r. ⌜ asPrinted r (now (out .exit)) ≡ printed (refused number p) at (now (out .entry)) ⌝ }
+    ensures { λ r. ⌜ asPrinted r (now (out .exit)) ≡ printed (lineRefused number p) at (now (out .entry)) ⌝ }
 {
     let line = count(p.line);
-    let next = passlines::lines::refusal_line(out, at, line, number);
+    let next = pass_writer::lines::refusal_line(out, at, line, number);
     let stage = Stage::Ended;
     let channel = p.channel;
     let pass = Pass {
@@ -88,7 +88,7 @@ pub fn refuse(p: Pass, number: u64, out: &mut [u8], at: usize) -> Judged
 
 // The line is taken, and the list does not change.
 pub fn take(p: Pass, stage: Stage, channel: Channel) -> Pass
-    ensures { λ r. ⌜ r ≡ taken stage channel p .pass ⌝ }
+    ensures { λ r. ⌜ r ≡ lineTaken stage channel p .pass ⌝ }
 {
     let line = count(p.line);
     Pass {

@@ -1,9 +1,10 @@
 // The first three lines: names, values, names.
 ghost use mathlib.Core.Path.{_≡_};
-ghost use Rattle.passtext.specs.Lines.{setupSaid, valuesLine};
+ghost use Rattle.pass_reader.specs.Lines.{valuesLine};
+ghost use Rattle.pass_reader.specs.Code.Answers.{valuesOf};
 ghost use Rattle.pass_setup.specs.Opening.{settingsOf, carriersOf, readied};
-ghost use Rattle.pass_setup.specs.Judging.{namesBy, readiedBy, valuesJudged};
-ghost use Rattle.pass_setup.specs.Buffers.{printed, asPrinted};
+ghost use Rattle.pass_setup.specs.Judging.{lineTaken, refusedOr, valuesJudged};
+ghost use Rattle.pass_setup.specs.Code.Buffers.{printed, asPrinted};
 use crate::pass::Judged;
 use crate::pass::Pass;
 use crate::pass::Stage;
@@ -11,12 +12,12 @@ use channel_model::Carriers;
 use channel_model::Returned;
 use channel_model::Settings;
 use ieee754::conversion::u64_to_f64;
-use passtext::values::Setup;
-use passtext::values::Values;
+use pass_reader::values::Values;
+use pass_reader::values::ValuesRead;
 
 // A line of names, by its refusal number: 0 where it is the one that has to stand here.
 pub fn take_names(p: Pass, refusal: u64, next: Stage, out: &mut [u8], at: usize) -> Judged
-    ensures { λ r. ⌜ asPrinted r (now (out .exit)) ≡ printed (namesBy refusal next p) at (now (out .entry)) ⌝ }
+    ensures { λ r. ⌜ asPrinted r (now (out .exit)) ≡ printed (refusedOr refusal p (lineTaken next (p .channel) p)) at (now (out .entry)) ⌝ }
 {
     if refusal != 0 {
         return crate::pass::refuse(p, refusal, out, at);
@@ -27,7 +28,7 @@ pub fn take_names(p: Pass, refusal: u64, next: Stage, out: &mut [u8], at: usize)
 }
 
 fn settings(v: Values) -> Settings
-    ensures { λ r. ⌜ r ≡ settingsOf (setupSaid (Setup.Read v) .1) ⌝ }
+    ensures { λ r. ⌜ r ≡ settingsOf (valuesOf v) ⌝ }
 {
     Settings {
         rate: v.rate,
@@ -43,7 +44,7 @@ fn settings(v: Values) -> Settings
 }
 
 fn carriers(v: Values) -> Carriers
-    ensures { λ r. ⌜ r ≡ carriersOf (setupSaid (Setup.Read v) .1) ⌝ }
+    ensures { λ r. ⌜ r ≡ carriersOf (valuesOf v) ⌝ }
 {
     let nominal = u64_to_f64(v.nominal);
     let target = u64_to_f64(v.target);
@@ -57,10 +58,10 @@ fn carriers(v: Values) -> Carriers
 
 // Opens a channel and assigns it.
 fn ready(v: Values) -> Returned
-    ensures { λ r. ⌜ r ≡ readied (setupSaid (Setup.Read v) .1) ⌝ }
+    ensures { λ r. ⌜ r ≡ readied (valuesOf v) ⌝ }
 {
     let s = settings(v);
-    let o = opening::open(s);
+    let o = channel_open::open(s);
     if o.refusal != 0 {
         return o;
     }
@@ -71,7 +72,7 @@ fn ready(v: Values) -> Returned
 
 // A channel that is opened and assigned, or the refusal of one of the two.
 fn take_channel(p: Pass, o: Returned, out: &mut [u8], at: usize) -> Judged
-    ensures { λ r. ⌜ asPrinted r (now (out .exit)) ≡ printed (readiedBy (o .refusal) (o .channel) p) at (now (out .entry)) ⌝ }
+    ensures { λ r. ⌜ asPrinted r (now (out .exit)) ≡ printed (refusedOr (o .refusal) p (lineTaken Stage.BlockNames (o .channel) p)) at (now (out .entry)) ⌝ }
 {
     if o.refusal != 0 {
         return crate::pass::refuse(p, o.refusal, out, at);
@@ -86,8 +87,8 @@ fn take_channel(p: Pass, o: Returned, out: &mut [u8], at: usize) -> Judged
 pub fn take_values(p: Pass, line: &[u8], out: &mut [u8], at: usize) -> Judged
     ensures { λ r. ⌜ asPrinted r (now (out .exit)) ≡ printed (valuesJudged (valuesLine (now (line .entry))) p) at (now (out .entry)) ⌝ }
 {
-    let said = passtext::values::values_line(line);
-    let Setup::Read(v) = said else {
+    let said = pass_reader::values::values_line(line);
+    let ValuesRead::Read(v) = said else {
         return crate::pass::refuse(p, 13, out, at);
     };
     let o = ready(v);

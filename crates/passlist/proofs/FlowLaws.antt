@@ -8,8 +8,9 @@ use lib.Dec.{leb}
 use lib.ListN.{length, take, drop}
 use lib.Seq.{take-at, length-take-le}
 use borrow.Author.Tests.{leb-true}
-use Rattle.passlines.specs.Lines.{namesText, longest, laid, written}
-use Rattle.passstream.specs.Stream.{carried}
+use Rattle.pass_writer.specs.Lines.{namesText}
+use Rattle.pass_writer.specs.Code.Buffers.{longest, laid, written}
+use Rattle.pass_stream.specs.Code.Carrying.{carried}
 
 -- what is carried over is no more than there was
 pub carried-within : (from to left : ℕ) (buf new : List ℕ) → (left, new) ≡ carried from to buf → to ≤ length buf → left ≤ length buf

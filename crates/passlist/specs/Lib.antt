@@ -1,2 +1,2 @@
 -- The stream of `passlist`.
-pub mod Flow
+pub mod Code

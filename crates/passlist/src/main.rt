@@ -1,10 +1,10 @@
 // Reads a pass text from standard input and writes its list to standard output (the scope, "The pass text and its list"). What is read and what
-// is written no contract can say; what is made of it, line by line, is in passrun, whose laws say that no border of a chunk and no write can be
+// is written no contract can say; what is made of it, line by line, is in pass_session, whose laws say that no border of a chunk and no write can be
 // seen in the list.
 ghost use Prim.Native.Nat.{_+_, _≤_};
 ghost use mathlib.Core.Path.{_≡_};
 ghost use lib.ListN.{length, take};
-ghost use Rattle.passlist.specs.Flow.{Within};
+ghost use Rattle.passlist.specs.Code.Flow.{InBuffers};
 use pass_setup::pass::Pass;
 
 // Where the stream stands: `left` bytes at the front of the input's buffer wait for the rest of their line, and `at` bytes of the list for a
@@ -41,9 +41,9 @@ fn read_behind(buf: &mut [u8], left: usize) -> usize
 
 // The end of the input, or a line longer than the buffer, which is outside the form whatever follows.
 fn last(pass: Pass, left: usize, at: usize, buf: &[u8], out: &mut [u8]) -> Flow
-    requires { ⌜ Within left at (length (now buf)) (length (now out)) ⌝ }
+    requires { ⌜ InBuffers left at (length (now buf)) (length (now out)) ⌝ }
     requires { ⌜ at + 135 ≤ length (now out) ⌝ }
-    ensures { λ r. ⌜ Within (r .left) (r .at) (length (now (buf .entry))) (length (now (out .entry))) ⌝ }
+    ensures { λ r. ⌜ InBuffers (r .left) (r .at) (length (now (buf .entry))) (length (now (out .entry))) ⌝ }
 {
     let j = pass_setup::ending::finish(pass, &buf[..left], out, at);
     let n = j.at;
@@ -59,9 +59,9 @@ fn last(pass: Pass, left: usize, at: usize, buf: &[u8], out: &mut [u8]) -> Flow
 
 // More bytes, where no line is left.
 fn fill(pass: Pass, left: usize, at: usize, buf: &mut [u8], out: &mut [u8]) -> Flow
-    requires { ⌜ Within left at (length (now buf)) (length (now out)) ⌝ }
+    requires { ⌜ InBuffers left at (length (now buf)) (length (now out)) ⌝ }
     requires { ⌜ at + 135 ≤ length (now out) ⌝ }
-    ensures { λ r. ⌜ Within (r .left) (r .at) (length (now (buf .entry))) (length (now (out .entry))) ⌝ }
+    ensures { λ r. ⌜ InBuffers (r .left) (r .at) (length (now (buf .entry))) (length (now (out .entry))) ⌝ }
 {
     if left == buf.len() {
         return last(pass, left, at, buf, out);
@@ -80,12 +80,12 @@ fn fill(pass: Pass, left: usize, at: usize, buf: &mut [u8], out: &mut [u8]) -> F
 
 // One turn: the whole lines that are there, and then a write or a read.
 fn turn(f: Flow, buf: &mut [u8], windows: &mut [f64], out: &mut [u8]) -> Flow
-    requires { ⌜ Within (f .left) (f .at) (length (now buf)) (length (now out)) ⌝ }
-    ensures { λ r. ⌜ Within (r .left) (r .at) (length (now (buf .entry))) (length (now (out .entry))) ⌝ }
+    requires { ⌜ InBuffers (f .left) (f .at) (length (now buf)) (length (now out)) ⌝ }
+    ensures { λ r. ⌜ InBuffers (r .left) (r .at) (length (now (buf .entry))) (length (now (out .entry))) ⌝ }
 {
     let waiting = f.left;
     let p = f.pass;
-    let r = passrun::run::run(p, &buf[..waiting], windows, out, f.at);
+    let r = pass_session::run::run(p, &buf[..waiting], windows, out, f.at);
     let pass = r.pass;
     let at = r.at;
     let stage = pass.stage;
@@ -98,8 +98,8 @@ fn turn(f: Flow, buf: &mut [u8], windows: &mut [f64], out: &mut [u8]) -> Flow
             done: true,
         };
     }
-    let left = passstream::carry(buf, r.used, waiting);
-    if !passlines::lines::has_room(out.len(), at) {
+    let left = pass_stream::carry(buf, r.used, waiting);
+    if !pass_writer::lines::has_room(out.len(), at) {
         let written = flush(out, at);
         return Flow {
             pass,
@@ -113,7 +113,7 @@ fn turn(f: Flow, buf: &mut [u8], windows: &mut [f64], out: &mut [u8]) -> Flow
 
 // Turn after turn. A proved loop has to end, and nothing says that the input does: no run uses up the count.
 fn pump(first: Flow, buf: &mut [u8], windows: &mut [f64], out: &mut [u8])
-    requires { ⌜ Within (first .left) (first .at) (length (now buf)) (length (now out)) ⌝ }
+    requires { ⌜ InBuffers (first .left) (first .at) (length (now buf)) (length (now out)) ⌝ }
 {
     let mut f = first;
     let mut turns = u64::MAX;
@@ -128,7 +128,7 @@ fn pump(first: Flow, buf: &mut [u8], windows: &mut [f64], out: &mut [u8])
 
 // The list's line of names comes first.
 fn start(buf: &mut [u8], windows: &mut [f64], out: &mut [u8]) {
-    let n = passlines::lines::names_line(out, 0);
+    let n = pass_writer::lines::names_line(out, 0);
     let pass = pass_setup::pass::new_pass();
     pump(
         Flow {

@@ -1,12 +1,12 @@
 -- Loops that go from i to i + 1, and folds in general. Assumes nothing.
-use mathlib.Core.Path.{_≡_, refl, ap, sym, _∙_}
-use mathlib.Core.Bool.{Bool, true, false, _&&_, _||_}
+use mathlib.Core.Path.{_≡_, refl, sym, _∙_}
+use mathlib.Core.Bool.{Bool, true, false, _&&_, and-true, and-assoc}
 use mathlib.Core.List.{List, [], _∷_, _++_}
 use Prim.Native.Nat.{ℕ, _+_, _≤_, _<_}
 use native.Mathlib.Numerals.{add-one}
 use lib.ListN.{length, getD, drop, drop-of-length-le}
 use lib.Seq.{drop-cons}
-use Rattle.sequences.specs.Folds.{fold, every, some}
+use Rattle.sequences.specs.Folds.{fold, every}
 
 -- a fold over a list in two parts
 pub fold-append {ℓ ℓ′} : {S : Type ℓ} {A : Type ℓ′} (f : S → A → S) (s : S) (xs ys : List A) → fold f s (xs ++ ys) ≡ fold f (fold f s xs) ys
@@ -25,14 +25,6 @@ pub fold-related {ℓ ℓ′ ℓ″ ℓ‴} : {S : Type ℓ} {U : Type ℓ′} {
 unfolding fold
 fold-related R f g keeps s u [] r = r
 fold-related R f g keeps s u (a ∷ xs) r = fold-related R f g keeps (f s a) (g u a) xs (keeps s u a r)
-
-and-assoc : (a b c : Bool) → ((a && b) && c) ≡ (a && (b && c))
-and-assoc true b c = refl
-and-assoc false b c = refl
-
-pub and-true : (a : Bool) → (a && true) ≡ a
-and-true true = refl
-and-true false = refl
 
 module _ {ℓ} {A : Type ℓ} (xs : List A) (i : ℕ) where
   -- a loop that folds: one turn, and the end

@@ -1,6 +1,6 @@
 -- Loops over an interleaved list that go from i to i + 2: what is left of the pairs, and a list that is changed in place. Assumes nothing.
-use mathlib.Core.Path.{_≡_, refl, ap, sym, _∙_}
-use mathlib.Core.Bool.{Bool, true, false, _||_}
+use mathlib.Core.Path.{_≡_, refl, ap, _∙_}
+use mathlib.Core.Bool.{Bool, _||_, or-false, or-assoc}
 use mathlib.Core.List.{List, [], _∷_, _++_, append-assoc}
 use mathlib.Core.Logic.{_⊎_, inl, inr}
 use Prim.Native.Nat.{ℕ, suc, _+_, _≤_, _<_}
@@ -22,14 +22,6 @@ unfolding mapPairs
 mapPairs-short f [] h = refl
 mapPairs-short f (a ∷ []) h = refl
 mapPairs-short f (a ∷ b ∷ r) h = absurd (omega arith)
-
-or-assoc : (a b c : Bool) → ((a || b) || c) ≡ (a || (b || c))
-or-assoc true b c = refl
-or-assoc false b c = refl
-
-or-false : (a : Bool) → (a || false) ≡ a
-or-false true = refl
-or-false false = refl
 
 -- nothing beside nothing
 zip-none {ℓ ℓ′ ℓ″} : {A : Type ℓ} {B : Type ℓ′} {S : Type ℓ″} (f : S → A × B → S) (s : S) (xs : List A) → fold f s (zip xs []) ≡ s

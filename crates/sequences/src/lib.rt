@@ -1,1 +1,1 @@
-// Lists as loops go through them: definitions in specs/, laws in proofs/, over any element. There are no functions here.
+// Lists as loops go through them, over any element: definitions in specs/, laws in proofs/. There are no functions here.

@@ -1,4 +1,4 @@
--- Sums by ascending index, as document 01 orders them: every partial sum is rounded, so the order and the start are part of the meaning.
+-- Sums by ascending index, as the scope orders them: every partial sum is rounded, so the order and the start are part of the meaning.
 -- For any type and operation. Definitions only.
 use Prim.Native.Nat.{ℕ, zero, suc, _+_}
 

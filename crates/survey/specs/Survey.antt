@@ -2,7 +2,8 @@
 use mathlib.Core.List.{List, [], _∷_}
 use mathlib.Core.Bool.{Bool, cond, _||_}
 use Prim.Native.Nat.{ℕ}
-use lib.Ieee.{Float, binary32, add, mul, lt, isNan, ofBits}
+use lib.Ieee.{Float, binary32, add, mul, lt, isNan}
+use Rattle.ieee754.specs.Binary32.{onePoint98, tenToMinus12}
 use Rattle.sequences.specs.Pairs.{pairs}
 use Rattle.sequences.specs.Folds.{some}
 
@@ -12,15 +13,15 @@ squaredMagnitude s = add binary32 (mul binary32 (s .0) (s .0)) (mul binary32 (s 
 unfoldable pub notANumber : Float × Float → Bool
 notANumber s = isNan (s .0) || isNan (s .1)
 
--- exceeds 1.98 (the f32, which lies a little above)
+-- exceeds 1.98
 unfoldable pub clipped : Float × Float → Bool
 unfolding squaredMagnitude
-clipped s = lt (ofBits binary32 0x3ffd_70a4) (squaredMagnitude s)
+clipped s = lt onePoint98 (squaredMagnitude s)
 
 -- exceeds 1e-12
 unfoldable pub signal : Float × Float → Bool
 unfolding squaredMagnitude
-signal s = lt (ofBits binary32 0x2b8c_bccc) (squaredMagnitude s)
+signal s = lt tenToMinus12 (squaredMagnitude s)
 
 -- 2 if a NaN, else 3 if clipped, else 1 if a signal, else 0
 unfoldable pub flagOf : Bool → Bool → Bool → ℕ

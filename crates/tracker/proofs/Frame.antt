@@ -7,17 +7,17 @@ use mathlib.Core.List.{List}
 use mathlib.Core.Option.{Option, none, some}
 use lib.Dec.{ltb}
 use lib.Ieee.{Float}
-use Rattle.covariance.specs.Float64.{zero}
-use Rattle.covariance.specs.Initial.{initialCovariance}
-use Rattle.covariance.specs.Correction.{innovationVariance, gainOf, correctedState, corrected}
-use Rattle.power_ratio.specs.PowerRatio.{ratio}
-use Rattle.measurement.specs.declared.measure.Measured.{Measured}
+use Rattle.ieee754.specs.Binary64.{zero}
+use Rattle.tracker_covariance.specs.Initial.{initialCovariance}
+use Rattle.tracker_covariance.specs.Correction.{innovationVariance, takesGain, gainOf, correctedState, corrected}
+use Rattle.tracker_power_ratio.specs.PowerRatio.{ratio}
+use Rattle.tracker_measurement.specs.declared.measure.Measured.{Measured}
 use Rattle.tracker.specs.declared.state.CarrierPllEkf.{CarrierPllEkf}
 use Rattle.tracker.specs.declared.correction.Correction.{Correction}
 use Rattle.tracker.specs.declared.correction.Correction.the-variants.{Kept, Lost}
 use Rattle.tracker.specs.declared.correction.Corrected.{Corrected}
 use Rattle.tracker.specs.State.{changed, zeroState, withState, withLock, lostTracker}
-use Rattle.tracker.specs.Correction.{takesGain, anyNan, wrappedPhase, limited, ended, gained}
+use Rattle.tracker.specs.Correction.{anyNan, wrappedPhase, limited, correctedOrLost, gained}
 use Rattle.tracker.specs.Lock.{nextMetric, unlocks, settled}
 use Rattle.tracker.specs.Update.{settledBy, settledAfter}
 
@@ -39,9 +39,9 @@ either : {A : Type 0} (f : A → CarrierPllEkf) (t : CarrierPllEkf) (b : Bool) (
 either f t true x y h g = h
 either f t false x y h g = g
 
-ended-frame : (t : CarrierPllEkf) (p : List Float) (i : ℕ) (noise : Float) (k y : List Float) (a : Correction) → SameFrame t (ended t p i noise k y a .ekf)
-unfolding ended
-ended-frame t p i noise k y a =
+corrected-frame : (t : CarrierPllEkf) (p : List Float) (i : ℕ) (noise : Float) (k y : List Float) (a : Correction) → SameFrame t (correctedOrLost t p i noise k y a .ekf)
+unfolding correctedOrLost
+corrected-frame t p i noise k y a =
     let v = wrappedPhase y i (t .modulation) in
     either (λ (r : Corrected). r .ekf) t (anyNan v)
     (record { ekf = lostTracker t; p = initialCovariance; answer = Lost })
@@ -56,8 +56,8 @@ gained-frame t p i m =
     let s = innovationVariance p i (m .«r_effective») in
     let k = gainOf p i s in
     let y = correctedState (t .x) k (m .z) in
-    either (λ (r : Corrected). r .ekf) t (takesGain s) (ended t p i (m .«r_effective») k y a) (record { ekf = t; p = p; answer = a })
-    (ended-frame t p i (m .«r_effective») k y a) (framed t t refl)
+    either (λ (r : Corrected). r .ekf) t (takesGain s) (correctedOrLost t p i (m .«r_effective») k y a) (record { ekf = t; p = p; answer = a })
+    (corrected-frame t p i (m .«r_effective») k y a) (framed t t refl)
 
 settled-frame : (t : CarrierPllEkf) (n pr : Float) → SameFrame t (settled t n pr)
 unfolding settled

@@ -4,6 +4,8 @@ pub mod NanTest
 pub mod CorrectionSteps
 pub mod LockSteps
 pub mod UpdateSteps
+pub mod SecondSteps
+pub mod EitherUpdate
 pub mod Frame
 pub mod Settings
 pub mod LiveWindow

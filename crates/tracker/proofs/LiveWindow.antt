@@ -4,18 +4,18 @@ use mathlib.Core.Path.{_≡_, refl, ap}
 use mathlib.Core.List.{List}
 use mathlib.Core.Option.{Option, none, some}
 use lib.Ieee.{Float}
-use Rattle.covariance.specs.declared.states.Channel.the-variants.{First, Second}
-use Rattle.covariance.specs.States.{phaseOf}
-use Rattle.power_ratio.specs.declared.PowerSums.{PowerSums}
-use Rattle.power_ratio.specs.PowerRatio.{pushed}
-use Rattle.power_ratio.proofs.LiveRing.{Live, pushed-same, pushed-live}
-use Rattle.measurement.specs.declared.measure.Measured.{Measured}
-use Rattle.measurement.specs.Measurement.{measured}
+use Rattle.tracker_covariance.specs.declared.states.Band.the-variants.{First, Second}
+use Rattle.tracker_covariance.specs.States.{phaseOf}
+use Rattle.tracker_power_ratio.specs.declared.PowerSums.{PowerSums}
+use Rattle.tracker_power_ratio.specs.PowerRatio.{pushed}
+use Rattle.tracker_power_ratio.proofs.LiveRing.{Live, pushed-same, pushed-live}
+use Rattle.tracker_measurement.specs.declared.measure.Measured.{Measured}
+use Rattle.tracker_measurement.specs.Measurement.{measured}
 use Rattle.tracker.specs.declared.state.CarrierPllEkf.{CarrierPllEkf}
 use Rattle.tracker.specs.declared.state.Tracked.{Tracked}
 use Rattle.tracker.specs.declared.correction.Corrected.{Corrected}
 use Rattle.tracker.specs.State.{powerOf, withEnvelope, withPower}
-use Rattle.tracker.specs.Correction.{pairOrLost, priorOf, gained, channelCorrected}
+use Rattle.tracker.specs.Correction.{pairOrLost, priorOf, gained, bandCorrected}
 use Rattle.tracker.specs.Update.{settledBy, secondBy, updated, secondCorrected, updatedDual}
 use Rattle.tracker.proofs.Frame.{SameFrame, framed, then, gained-frame, by-frame, after-frame}
 
@@ -46,16 +46,16 @@ module _ (t : CarrierPllEkf) (p r q : List Float) (re im : Float) (h : Live (t .
   after : PowerSums → Corrected
   after s = gained (withPower (withEnvelope t (m .«envelope_ema»)) s) p (phaseOf First) m
 
-  first-same : channelCorrected t p r First re im .0 ≡ channelCorrected t p q First re im .0
-  unfolding channelCorrected m before moved after
+  first-same : bandCorrected t p r First re im .0 ≡ bandCorrected t p q First re im .0
+  unfolding bandCorrected m before moved after
   first-same = ap after (pushed-same before r q (m .«abs_i») (m .«q_sq») h)
 
-  first-count : (w : List Float) → channelCorrected t p w First re im .0 .ekf .«pr_pushed» ≡ moved w .pushed
-  unfolding channelCorrected m before moved
+  first-count : (w : List Float) → bandCorrected t p w First re im .0 .ekf .«pr_pushed» ≡ moved w .pushed
+  unfolding bandCorrected m before moved
   first-count w = count (gained-frame _ p (phaseOf First) m)
 
-  first-live : Live (channelCorrected t p r First re im .0 .ekf .«pr_pushed») (channelCorrected t p r First re im .1) (channelCorrected t p q First re im .1)
-  unfolding channelCorrected m before moved
+  first-live : Live (bandCorrected t p r First re im .0 .ekf .«pr_pushed») (bandCorrected t p r First re im .1) (bandCorrected t p q First re im .1)
+  unfolding bandCorrected m before moved
   first-live = rw (first-count r) (pushed-live before r q (m .«abs_i») (m .«q_sq») h)
 
 -- ---- the second channel's, which has no window
@@ -64,12 +64,12 @@ abbrev secondTracked : Option (Float × Float) → CarrierPllEkf → List Float 
 secondTracked o t p re im = secondBy o t p p re im .0
 
 second-apart : (o : Option (Float × Float)) (t : CarrierPllEkf) (p w : List Float) (re im : Float) → secondBy o t p w re im ≡ (secondTracked o t p re im, w)
-unfolding secondCorrected channelCorrected
+unfolding secondCorrected bandCorrected
 second-apart (some a) t p w re im = refl
 second-apart none t p w re im = refl
 
 second-frame : (o : Option (Float × Float)) (t : CarrierPllEkf) (p : List Float) (re im : Float) → SameFrame t (secondTracked o t p re im .ekf)
-unfolding secondCorrected channelCorrected
+unfolding secondCorrected bandCorrected
 second-frame (some a) t p re im =
     let m = measured (priorOf t (phaseOf Second)) re im in
     let u = withEnvelope t (m .«envelope_ema») in
@@ -83,7 +83,7 @@ pub updated-together : (t : CarrierPllEkf) (p r q : List Float) (re im : Float) 
     → Together (updated t p r re im) (updated t p q re im)
 unfolding updated
 updated-together t p r q re im h =
-    let d = channelCorrected t p r First re im .0 in
+    let d = bandCorrected t p r First re im .0 in
     record {
       same = ap (λ (c : Corrected). settledBy (pairOrLost (c .answer)) (c .ekf) (c .p)) (first-same t p r q re im h);
       live = rw (count (by-frame (pairOrLost (d .answer)) (d .ekf) (d .p))) (first-live t p r q re im h);
@@ -93,8 +93,8 @@ pub dual-together : (t : CarrierPllEkf) (p r q : List Float) (re1 im1 re2 im2 : 
     → Together (updatedDual t p r re1 im1 re2 im2) (updatedDual t p q re1 im1 re2 im2)
 unfolding updatedDual
 dual-together t p r q re1 im1 re2 im2 h =
-    let d = channelCorrected t p r First re1 im1 in
-    let e = channelCorrected t p q First re1 im1 in
+    let d = bandCorrected t p r First re1 im1 in
+    let e = bandCorrected t p q First re1 im1 in
     let o = pairOrLost (d .0 .answer) in
     rw (second-apart o (d .0 .ekf) (d .0 .p) (d .1) re2 im2, second-apart (pairOrLost (e .0 .answer)) (e .0 .ekf) (e .0 .p) (e .1) re2 im2)
     (record {

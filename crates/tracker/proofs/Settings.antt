@@ -4,15 +4,15 @@ use mathlib.Core.Bool.{false}
 use mathlib.Core.List.{List}
 use mathlib.Core.Option.{Option, none, some}
 use lib.Ieee.{Float}
-use Rattle.covariance.specs.Float64.{zero}
-use Rattle.covariance.specs.declared.states.Channel.{Channel}
-use Rattle.covariance.specs.declared.states.Channel.the-variants.{First, Second}
-use Rattle.covariance.specs.States.{phaseOf}
-use Rattle.measurement.specs.Measurement.{measured}
+use Rattle.ieee754.specs.Binary64.{zero}
+use Rattle.tracker_covariance.specs.declared.states.Band.{Band}
+use Rattle.tracker_covariance.specs.declared.states.Band.the-variants.{First, Second}
+use Rattle.tracker_covariance.specs.States.{phaseOf}
+use Rattle.tracker_measurement.specs.Measurement.{measured}
 use Rattle.tracker.specs.declared.state.CarrierPllEkf.{CarrierPllEkf}
 use Rattle.tracker.specs.State.{changed, zeroState, noPower, withEnvelope, resetTo}
-use Rattle.tracker.specs.Prediction.{predictedBy}
-use Rattle.tracker.specs.Correction.{pairOrLost, priorOf, windowed, channelCorrected}
+use Rattle.tracker.specs.Prediction.{predictedOver}
+use Rattle.tracker.specs.Correction.{pairOrLost, priorOf, windowed, bandCorrected}
 use Rattle.tracker.specs.Update.{secondBy, updated, secondCorrected, updatedDual}
 use Rattle.tracker.proofs.Frame.{SameFrame, gained-frame, by-frame, after-frame}
 
@@ -34,12 +34,12 @@ then a b = record { same = b .same ∙ a .same }
 of-frame : {t u : CarrierPllEkf} → SameFrame t u → Keeps t u
 of-frame h = record { same = ap settings (h .same) }
 
-windowed-keeps : (h : Channel) (t : CarrierPllEkf) (w : List Float) (i q : Float) → Keeps t (windowed h t w i q .0)
+windowed-keeps : (h : Band) (t : CarrierPllEkf) (w : List Float) (i q : Float) → Keeps t (windowed h t w i q .0)
 windowed-keeps First t w i q = none-changed t _ refl
 windowed-keeps Second t w i q = none-changed t _ refl
 
-pub corrected-keeps : (t : CarrierPllEkf) (p w : List Float) (h : Channel) (re im : Float) → Keeps t (channelCorrected t p w h re im .0 .ekf)
-unfolding channelCorrected
+pub corrected-keeps : (t : CarrierPllEkf) (p w : List Float) (h : Band) (re im : Float) → Keeps t (bandCorrected t p w h re im .0 .ekf)
+unfolding bandCorrected
 corrected-keeps t p w h re im =
     let i = phaseOf h in
     let m = measured (priorOf t i) re im in
@@ -49,13 +49,13 @@ corrected-keeps t p w h re im =
 pub updated-keeps : (t : CarrierPllEkf) (p w : List Float) (re im : Float) → Keeps t (updated t p w re im .0 .ekf)
 unfolding updated
 updated-keeps t p w re im =
-    let d = channelCorrected t p w First re im .0 in
+    let d = bandCorrected t p w First re im .0 in
     then (corrected-keeps t p w First re im) (of-frame (by-frame (pairOrLost (d .answer)) (d .ekf) (d .p)))
 
 second-keeps : (t : CarrierPllEkf) (p w : List Float) (n pr re im : Float) → Keeps t (secondCorrected t p w n pr re im .0 .ekf)
 unfolding secondCorrected
 second-keeps t p w n pr re im =
-    let d = channelCorrected t p w Second re im .0 in
+    let d = bandCorrected t p w Second re im .0 in
     then (corrected-keeps t p w Second re im) (of-frame (after-frame (pairOrLost (d .answer)) (d .ekf) (d .p) n pr))
 
 two-keeps : (o : Option (Float × Float)) (t : CarrierPllEkf) (p w : List Float) (re im : Float) → Keeps t (secondBy o t p w re im .0 .ekf)
@@ -65,12 +65,12 @@ two-keeps none t p w re im = none-changed t _ refl
 pub dual-keeps : (t : CarrierPllEkf) (p w : List Float) (re1 im1 re2 im2 : Float) → Keeps t (updatedDual t p w re1 im1 re2 im2 .0 .ekf)
 unfolding updatedDual
 dual-keeps t p w re1 im1 re2 im2 =
-    let d = channelCorrected t p w First re1 im1 in
+    let d = bandCorrected t p w First re1 im1 in
     then (corrected-keeps t p w First re1 im1) (two-keeps (pairOrLost (d .0 .answer)) (d .0 .ekf) (d .0 .p) (d .1) re2 im2)
 
-pub predicted-keeps : (t : CarrierPllEkf) (p : List Float) → Keeps t (predictedBy t p .ekf)
-unfolding predictedBy
-predicted-keeps t p = none-changed t _ refl
+pub predicted-keeps : (dt : Float) (t : CarrierPllEkf) (p : List Float) → Keeps t (predictedOver dt t p .ekf)
+unfolding predictedOver
+predicted-keeps dt t p = none-changed t _ refl
 
 pub reset-keeps : (t : CarrierPllEkf) (phase hz rate : Float) → Keeps t (resetTo t phase hz rate .ekf)
 unfolding resetTo

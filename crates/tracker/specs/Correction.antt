@@ -1,32 +1,32 @@
--- Correction by one sample of one channel (01, module 3; the source's `update_channel`). Definitions only.
+-- Correction by one sample of one channel (the scope, module 3; the source's `update_channel`). Definitions only.
 use Prim.Native.Nat.{ℕ, _+_}
 use mathlib.Core.Bool.{Bool, cond, _||_}
 use mathlib.Core.List.{List}
 use mathlib.Core.Option.{Option, none, some}
 use lib.ListN.{set}
-use lib.Ieee.{Float, binary64, le, neg, isNan, ofBits}
+use lib.Ieee.{Float, neg, isNan}
+use Rattle.ieee754.specs.Binary64 as float
 use Rattle.ieee754.specs.Order.{clamped}
-use Rattle.ieee754.specs.Sign.{absolute}
-use Rattle.covariance.specs.declared.states.Channel.{Channel}
-use Rattle.covariance.specs.declared.states.Channel.the-variants.{First, Second}
-use Rattle.covariance.specs.Float64.{times, twoPi}
-use Rattle.covariance.specs.Matrix.{el}
-use Rattle.covariance.specs.States.{phaseOf}
-use Rattle.covariance.specs.Initial.{initialCovariance}
-use Rattle.covariance.specs.Correction.{innovationVariance, gainOf, correctedState, corrected}
-use Rattle.measurement.specs.declared.modulation.Modulation.{Modulation}
-use Rattle.measurement.specs.declared.measure.Prior.{Prior}
-use Rattle.measurement.specs.declared.measure.Measured.{Measured}
-use Rattle.measurement.specs.Phase.{wrapped}
-use Rattle.measurement.specs.Measurement.{measured}
-use Rattle.power_ratio.specs.PowerRatio.{pushed, ratio}
+use Rattle.tracker_covariance.specs.declared.states.Band.{Band}
+use Rattle.tracker_covariance.specs.declared.states.Band.the-variants.{First, Second}
+use Rattle.ieee754.specs.Binary64.{times, twoPi}
+use Rattle.tracker_covariance.specs.Matrix.{el}
+use Rattle.tracker_covariance.specs.States.{phaseOf}
+use Rattle.tracker_covariance.specs.Initial.{initialCovariance}
+use Rattle.tracker_covariance.specs.Correction.{innovationVariance, takesGain, gainOf, correctedState, corrected}
+use Rattle.tracker_measurement.specs.declared.modulation.Modulation.{Modulation}
+use Rattle.tracker_measurement.specs.declared.measure.Prior.{Prior}
+use Rattle.tracker_measurement.specs.declared.measure.Measured.{Measured}
+use Rattle.tracker_measurement.specs.Phase.{wrapped}
+use Rattle.tracker_measurement.specs.Measurement.{measured}
+use Rattle.tracker_power_ratio.specs.PowerRatio.{pushed, ratio}
 use Rattle.tracker.specs.declared.state.CarrierPllEkf.{CarrierPllEkf}
 use Rattle.tracker.specs.declared.correction.Correction.{Correction}
 use Rattle.tracker.specs.declared.correction.Correction.the-variants.{Kept, Lost}
 use Rattle.tracker.specs.declared.correction.Corrected.{Corrected}
 use Rattle.tracker.specs.State.{powerOf, withState, withEnvelope, withPower, lostTracker}
 
--- 01: a correction "answers either the pair of in-phase value and power ratio, or lost". The enum's first case is the pair, its second is lost
+-- the scope: a correction "answers either the pair of in-phase value and power ratio, or lost". The enum's first case is the pair, its second is lost
 abbrev pub pairOrLost : Correction → Option (Float × Float)
 pairOrLost (Kept inPhase pr) = some (inPhase, pr)
 pairOrLost Lost = none
@@ -42,10 +42,6 @@ priorOf t i =
       «envelope_ema» = t .«envelope_ema»;
     }
 
--- a correction takes a gain where |s| is at least 1e-12; a NaN is not
-unfoldable pub takesGain : Float → Bool
-takesGain s = le (ofBits binary64 0x3d71_9799_812d_ea11) (absolute s)
-
 unfoldable pub anyNan : List Float → Bool
 anyNan x =
     ((((isNan (el x 0) || isNan (el x 1)) || isNan (el x 2)) || isNan (el x 3)) || isNan (el x 4)) || isNan (el x 5)
@@ -56,10 +52,10 @@ wrappedPhase x i m = set x i (wrapped m (el x i))
 
 -- 2π × 50,000 and 2π × 1,000
 abbrev pub maxFreq : Float
-maxFreq = times twoPi (ofBits binary64 0x40e8_6a00_0000_0000)
+maxFreq = times twoPi float.fiftyThousand
 
 abbrev pub maxChirp : Float
-maxChirp = times twoPi (ofBits binary64 0x408f_4000_0000_0000)
+maxChirp = times twoPi float.thousand
 
 -- the frequency and the chirp after phase i within their limits
 unfoldable pub limited : List Float → ℕ → List Float
@@ -67,8 +63,8 @@ limited x i =
     set (set x (i + 1) (clamped (el x (i + 1)) (neg maxFreq) maxFreq)) (i + 2) (clamped (el x (i + 2)) (neg maxChirp) maxChirp)
 
 -- the end of a correction that took the gain k and moved the state to y: lost where a NaN is left after the wrap
-unfoldable pub ended : CarrierPllEkf → List Float → ℕ → Float → List Float → List Float → Correction → Corrected
-ended t p i noise k y kept =
+unfoldable pub correctedOrLost : CarrierPllEkf → List Float → ℕ → Float → List Float → List Float → Correction → Corrected
+correctedOrLost t p i noise k y kept =
     let v = wrappedPhase y i (t .modulation) in
     cond (anyNan v)
     (record { ekf = lostTracker t; p = initialCovariance; answer = Lost })
@@ -81,18 +77,18 @@ gained t p i m =
     let s = innovationVariance p i (m .«r_effective») in
     let k = gainOf p i s in
     cond (takesGain s)
-    (ended t p i (m .«r_effective») k (correctedState (t .x) k (m .z)) kept)
+    (correctedOrLost t p i (m .«r_effective») k (correctedState (t .x) k (m .z)) kept)
     (record { ekf = t; p = p; answer = kept })
 
 -- only the first channel's pairs enter the window
-abbrev pub windowed : Channel → CarrierPllEkf → List Float → Float → Float → CarrierPllEkf × List Float
+abbrev pub windowed : Band → CarrierPllEkf → List Float → Float → Float → CarrierPllEkf × List Float
 windowed First t w i q = let s = pushed (powerOf t) w i q in (withPower t (s .0), s .1)
 windowed Second t w i q = (t, w)
 
 -- the envelope and the window take the sample in first, whatever becomes of the correction
-unfoldable pub channelCorrected : CarrierPllEkf → List Float → List Float → Channel → Float → Float → Corrected × List Float
-channelCorrected t p w channel re im =
-    let i = phaseOf channel in
+unfoldable pub bandCorrected : CarrierPllEkf → List Float → List Float → Band → Float → Float → Corrected × List Float
+bandCorrected t p w band re im =
+    let i = phaseOf band in
     let m = measured (priorOf t i) re im in
-    let u = windowed channel (withEnvelope t (m .«envelope_ema»)) w (m .«abs_i») (m .«q_sq») in
+    let u = windowed band (withEnvelope t (m .«envelope_ema»)) w (m .«abs_i») (m .«q_sq») in
     (gained (u .0) p i m, u .1)

@@ -4,3 +4,4 @@ pub mod Prediction
 pub mod Correction
 pub mod Lock
 pub mod Update
+pub mod Code

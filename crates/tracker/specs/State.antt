@@ -1,13 +1,14 @@
--- The tracker's value (01, module 3), what changes in it, and how it starts. Definitions only.
+-- The tracker's value (the scope, module 3), what changes in it, and how it starts. Definitions only.
 use Prim.Native.Nat.{ℕ}
 use mathlib.Core.Bool.{Bool, true, false}
 use mathlib.Core.List.{List, [], _∷_}
 use lib.ListN.{replicate}
-use lib.Ieee.{Float, binary64, ofBits}
-use Rattle.covariance.specs.Float64.{times, over, zero, one, half, twoPi}
-use Rattle.covariance.specs.Initial.{initialCovariance}
-use Rattle.measurement.specs.declared.modulation.Modulation.{Modulation}
-use Rattle.power_ratio.specs.declared.PowerSums.{PowerSums}
+use lib.Ieee.{Float}
+use Rattle.ieee754.specs.Binary64 as float
+use Rattle.ieee754.specs.Binary64.{times, over, zero, one, half, twoPi}
+use Rattle.tracker_covariance.specs.Initial.{initialCovariance}
+use Rattle.tracker_measurement.specs.declared.modulation.Modulation.{Modulation}
+use Rattle.tracker_power_ratio.specs.declared.PowerSums.{PowerSums}
 use Rattle.tracker.specs.declared.state.CarrierPllEkf.{CarrierPllEkf}
 use Rattle.tracker.specs.declared.state.Tracked.{Tracked}
 
@@ -61,29 +62,29 @@ lostTracker t = changed t zeroState (t .«envelope_ema») (powerOf t) zero false
 abbrev pub noPower : PowerSums
 noPower = record { pushed = 0; «sum_abs_i» = zero; «sum_q_sq» = zero }
 
--- the source's noise figures: 0.1, 5,000, 10,000 and 10
-unfoldable pub opened : Float → Modulation → Tracked
-opened fs m =
+-- A tracker as it is made, with its switches and frequency ratio. The source's noise figures: 0.1, 5,000, 10,000 and 10
+unfoldable pub initialTracker : Float → Modulation → Bool → Bool → Float → Tracked
+initialTracker fs m adaptive dual ratio =
     record {
       ekf =
           record {
             x = zeroState;
-            «q_phase» = ofBits binary64 0x3fb9_9999_9999_999a;
-            «q_freq» = ofBits binary64 0x40b3_8800_0000_0000;
-            «q_chirp» = ofBits binary64 0x40c3_8800_0000_0000;
-            «r_meas» = ofBits binary64 0x4024_0000_0000_0000;
+            «q_phase» = float.point1;
+            «q_freq» = float.fiveThousand;
+            «q_chirp» = float.tenThousand;
+            «r_meas» = float.ten;
             ts = over one fs;
             «lock_metric» = zero;
             «is_locked» = false;
             modulation = m;
             «envelope_ema» = one;
-            «adaptive_ekf» = true;
-            «dual_lock» = true;
+            «adaptive_ekf» = adaptive;
+            «dual_lock» = dual;
             «pr_pushed» = 0;
             «pr_sum_abs_i» = zero;
             «pr_sum_q_sq» = zero;
             «convergence_guard» = 0;
-            «frequency_ratio» = one;
+            «frequency_ratio» = ratio;
           };
       p = initialCovariance;
     }

@@ -1,11 +1,11 @@
--- An update (01, module 3): correction, and then the metric, the guard and the lock mark; one that gets lost stops there. Definitions only.
+-- An update (the scope, module 3): correction, and then the metric, the guard and the lock mark; one that gets lost stops there. Definitions only.
 use mathlib.Core.List.{List}
 use mathlib.Core.Option.{Option, none, some}
 use lib.Ieee.{Float}
-use Rattle.covariance.specs.declared.states.Channel.the-variants.{First, Second}
+use Rattle.tracker_covariance.specs.declared.states.Band.the-variants.{First, Second}
 use Rattle.tracker.specs.declared.state.CarrierPllEkf.{CarrierPllEkf}
 use Rattle.tracker.specs.declared.state.Tracked.{Tracked}
-use Rattle.tracker.specs.Correction.{pairOrLost, channelCorrected}
+use Rattle.tracker.specs.Correction.{pairOrLost, bandCorrected}
 use Rattle.tracker.specs.Lock.{settled}
 
 abbrev pub tracked : CarrierPllEkf → List Float → Tracked
@@ -18,7 +18,7 @@ settledBy none t p = tracked t p
 
 unfoldable pub updated : CarrierPllEkf → List Float → List Float → Float → Float → Tracked × List Float
 updated t p w re im =
-    let d = channelCorrected t p w First re im in
+    let d = bandCorrected t p w First re im in
     (settledBy (pairOrLost (d .0 .answer)) (d .0 .ekf) (d .0 .p), d .1)
 
 -- two frequencies: the second correction, after the first one answered inPhase and pr; the metric, the guard and the mark go by the first
@@ -28,7 +28,7 @@ settledAfter none t p inPhase pr = tracked t p
 
 unfoldable pub secondCorrected : CarrierPllEkf → List Float → List Float → Float → Float → Float → Float → Tracked × List Float
 secondCorrected t p w inPhase pr re im =
-    let d = channelCorrected t p w Second re im in
+    let d = bandCorrected t p w Second re im in
     (settledAfter (pairOrLost (d .0 .answer)) (d .0 .ekf) (d .0 .p) inPhase pr, d .1)
 
 abbrev pub secondBy : Option (Float × Float) → CarrierPllEkf → List Float → List Float → Float → Float → Tracked × List Float
@@ -37,5 +37,5 @@ secondBy none t p w re im = (tracked t p, w)
 
 unfoldable pub updatedDual : CarrierPllEkf → List Float → List Float → Float → Float → Float → Float → Tracked × List Float
 updatedDual t p w re1 im1 re2 im2 =
-    let d = channelCorrected t p w First re1 im1 in
+    let d = bandCorrected t p w First re1 im1 in
     secondBy (pairOrLost (d .0 .answer)) (d .0 .ekf) (d .0 .p) (d .1) re2 im2

@@ -1,11 +1,11 @@
-// Prediction over the tracker's interval.
+// Prediction over an interval.
 ghost use mathlib.Core.Path.{_≡_};
-ghost use Rattle.tracker.specs.Prediction.{noiseScale, processNoise, predictedBy};
+ghost use Rattle.tracker.specs.Prediction.{noiseScale, processNoise, predictedOver};
 use crate::state::CarrierPllEkf;
 use crate::state::Tracked;
-use covariance::prediction::ProcessNoise;
-use covariance::states::predict_state;
 use ieee754::order::clamp;
+use tracker_covariance::prediction::ProcessNoise;
+use tracker_covariance::states::predict_state;
 
 // The factor of the process noise: smaller as the lock gets better.
 fn noise_scale(adaptive: bool, lock_metric: f64) -> f64
@@ -17,11 +17,10 @@ fn noise_scale(adaptive: bool, lock_metric: f64) -> f64
     1.0
 }
 
-pub fn process_noise(t: CarrierPllEkf) -> ProcessNoise
-    ensures { λ r. ⌜ r ≡ processNoise t ⌝ }
+pub fn process_noise(t: CarrierPllEkf, dt: f64) -> ProcessNoise
+    ensures { λ r. ⌜ r ≡ processNoise dt t ⌝ }
 {
     let s = noise_scale(t.adaptive_ekf, t.lock_metric);
-    let dt = t.ts;
     ProcessNoise {
         q_p: t.q_phase * s * dt,
         q_f: t.q_freq * s * dt,
@@ -31,14 +30,14 @@ pub fn process_noise(t: CarrierPllEkf) -> ProcessNoise
 }
 
 impl CarrierPllEkf {
-    // x becomes F·x, and P the mean of F·P·Fᵀ + Q and its transpose.
-    pub fn predict(self, p: [f64; 36]) -> Tracked
-        ensures { λ r. ⌜ r ≡ predictedBy self p ⌝ }
+    // x becomes F·x, and P the mean of F·P·Fᵀ + Q and its transpose. The source sets the tracker's interval to dt, predicts and puts its own back; here dt
+    // is an argument.
+    pub fn predict(self, p: [f64; 36], dt: f64) -> Tracked
+        ensures { λ r. ⌜ r ≡ predictedOver dt self p ⌝ }
     {
-        let dt = self.ts;
         let x = self.x;
-        let n = process_noise(self);
-        let q = covariance::prediction::predict(p, dt, n);
+        let n = process_noise(self, dt);
+        let q = tracker_covariance::prediction::predict(p, dt, n);
         let y = predict_state(x, dt);
         let mut t = self;
         t.x = y;

@@ -1,8 +1,10 @@
 // The tracker's value, and how it starts.
 ghost use mathlib.Core.Path.{_≡_};
-ghost use Rattle.tracker.specs.State.{opened, resetTo};
-use covariance::initial::initial;
-use measurement::modulation::Modulation;
+ghost use mathlib.Core.Bool.{true};
+ghost use Rattle.ieee754.specs.Binary64.{one};
+ghost use Rattle.tracker.specs.State.{initialTracker, resetTo};
+use tracker_covariance::initial::initial;
+use tracker_measurement::modulation::Modulation;
 
 // The states, noise figures and lock marks. The window of power pairs is lent memory; pr_pushed says where in it the tracker is.
 pub struct CarrierPllEkf {
@@ -32,7 +34,7 @@ pub struct Tracked {
 }
 
 impl CarrierPllEkf {
-    // The largest frequency and chirp, in radians.
+    // The largest frequency, in rad/s, and the largest chirp, in rad/s².
     pub const MAX_FREQ: f64 = 2.0 * 3.141592653589793 * 50000.0;
 
     pub const MAX_CHIRP: f64 = 2.0 * 3.141592653589793 * 1000.0;
@@ -41,7 +43,7 @@ impl CarrierPllEkf {
     pub const CONVERGENCE_GUARD: usize = 2048;
 
     pub fn new(fs: f64, modulation: Modulation) -> Tracked
-        ensures { λ r. ⌜ r ≡ opened fs modulation ⌝ }
+        ensures { λ r. ⌜ r ≡ initialTracker fs modulation true true one ⌝ }
     {
         let p = initial();
         let ekf = CarrierPllEkf {

@@ -1,12 +1,12 @@
 // Replays answers of the Rust's tracker: prediction, correction, updates for one frequency and two, and reset, on built values. A vector begins
 // with its kind; reference/vectors makes them, and reference/README.md has the fields of each kind. The number of each vector that differs is
 // printed.
-use covariance::states::Channel;
 use libc::STDOUT_FILENO;
-use measurement::modulation::Modulation;
-use stepping::update::update;
 use tracker::correction::Correction;
+use tracker::first::correct_by_first;
+use tracker::second::correct_by_second;
 use tracker::state::CarrierPllEkf;
+use tracker_measurement::modulation::Modulation;
 use vectors::numbers::is_next;
 use vectors::numbers::is_next_whole;
 use vectors::numbers::next_f32;
@@ -133,7 +133,7 @@ fn predict_holds() -> bool {
     t.lock_metric = next_f64();
     t.frequency_ratio = next_f64();
     t.adaptive_ekf = next_whole() == 1;
-    let r = t.predict(p);
+    let r = t.predict(p, t.ts);
     let y = r.ekf.x;
     let q = r.p;
     let a = six_are_next(y);
@@ -156,23 +156,14 @@ fn answer_is_next(c: Correction) -> bool {
     }
 }
 
-fn channel_of(n: u64) -> Channel {
-    if n == 0 {
-        Channel::First
-    } else {
-        Channel::Second
-    }
-}
-
-fn correct_holds() -> bool {
-    let channel = channel_of(next_whole());
+fn first_holds() -> bool {
     let b = next_before(false, 0);
     let s = next_sample();
     let t = b.ekf;
     let p = b.p;
     let fill = t.pr_pushed;
     let mut w = window_of(fill, b.abs_i, b.q_sq);
-    let r = t.update_channel(p, &mut w, channel, s.0, s.1);
+    let r = correct_by_first(t, p, &mut w, s.0, s.1);
     let k = 2 * (fill % 1024);
     let u = r.ekf;
     let q = r.p;
@@ -181,6 +172,43 @@ fn correct_holds() -> bool {
     let two = tracker_is_next(u, q);
     let three = pair_is_next(w[k], w[k + 1]);
     one & two & three
+}
+
+// Whether the correction was lost. The Rust's pair is passed over: the second channel's is used by nothing and not worked out.
+fn loss_is_next(c: Correction) -> bool {
+    let same = match c {
+        Correction::Kept(_, _) => is_next_whole(1),
+        Correction::Lost => is_next_whole(0),
+    };
+    next_f64();
+    next_f64();
+    same
+}
+
+// The second channel's correction leaves the window as it was.
+fn second_holds() -> bool {
+    let b = next_before(false, 0);
+    let s = next_sample();
+    let t = b.ekf;
+    let p = b.p;
+    let fill = t.pr_pushed;
+    let w = window_of(fill, b.abs_i, b.q_sq);
+    let r = correct_by_second(t, p, 0.0, 0.0, s.0, s.1);
+    let k = 2 * (fill % 1024);
+    let u = r.ekf;
+    let q = r.p;
+    let c = r.answer;
+    let one = loss_is_next(c);
+    let two = tracker_is_next(u, q);
+    let three = pair_is_next(w[k], w[k + 1]);
+    one & two & three
+}
+
+fn correct_holds() -> bool {
+    if next_whole() == 0 {
+        return first_holds();
+    }
+    second_holds()
 }
 
 fn update_holds() -> bool {
@@ -192,7 +220,7 @@ fn update_holds() -> bool {
     let p = b.p;
     let fill = t.pr_pushed;
     let mut w = window_of(fill, b.abs_i, b.q_sq);
-    let r = update(t, p, &mut w, false, s.0, s.1, 0.0, 0.0);
+    let r = t.update(p, &mut w, false, s.0, s.1, 0.0, 0.0);
     let k = 2 * (fill % 1024);
     let u = r.ekf;
     let q = r.p;
@@ -212,7 +240,7 @@ fn dual_holds() -> bool {
     let p = b.p;
     let fill = t.pr_pushed;
     let mut w = window_of(fill, b.abs_i, b.q_sq);
-    let r = update(t, p, &mut w, true, s1.0, s1.1, s2.0, s2.1);
+    let r = t.update(p, &mut w, true, s1.0, s1.1, s2.0, s2.1);
     let k = 2 * (fill % 1024);
     let u = r.ekf;
     let q = r.p;

@@ -1,11 +1,11 @@
-// Reading outside vectors: numbers at fixed places of a line. For the programs that run vectors and compare.
+// Reading outside vectors, as words of 16 hexadecimal digits, for the programs that run them and compare.
 pub mod numbers;
 
 ghost use mathlib.Core.Path.{_≡_};
 ghost use mathlib.Core.Bool.{false};
 ghost use Prim.Native.Nat.{_+_, _<_, _≤_};
 ghost use lib.ListN.{length};
-ghost use Rattle.vectors.specs.Words.{digitOf, withDigit, wordAt};
+ghost use Rattle.vectors.specs.Code.Words.{digitOf, withDigit, wordAt};
 use ieee754::pattern::f32_from_bits;
 
 // The value of a hexadecimal digit; any other byte counts as 0.

@@ -2,7 +2,7 @@
 // one NaN. (No contract can say what a read brings.)
 ghost use mathlib.Core.Path.{_≡_};
 ghost use Rattle.sequences.specs.Folds.{fold};
-ghost use Rattle.vectors.specs.Words.{mixed};
+ghost use Rattle.vectors.specs.Code.Words.{mixed};
 use crate::next_word;
 use ieee754::pattern::f32_from_bits;
 use ieee754::pattern::f32_to_bits;

@@ -11,37 +11,38 @@ use Rattle.ieee754.specs.Sign.{absolute}
 use Rattle.sequences.specs.Pairs.{pairs, mapPairs}
 use Rattle.sequences.specs.Folds.{fold, every}
 use Rattle.sequences.specs.Stretches.{within}
-use Rattle.covariance.specs.Float64 as float
-use Rattle.measurement.specs.declared.modulation.Modulation.{Modulation}
+use Rattle.ieee754.specs.Binary64 as float
+use Rattle.tracker_measurement.specs.declared.modulation.Modulation.{Modulation}
 use Rattle.tracker.specs.declared.state.Tracked.{Tracked}
-use Rattle.tracker.specs.State as tracker
+use Rattle.tracker.specs.State.{initialTracker}
 use Rattle.tracker.specs.State.{resetTo}
-use Rattle.tracking.specs.Following.{followed, overLists}
-use Rattle.correlation.specs.Correlation.{prepared}
-use Rattle.correlation.proofs.SampleLaws.{prepared-count}
-use Rattle.esprit.proofs.EstimateCases.{too-few}
-use Rattle.snr.specs.MomentEstimate.{lowest, snrOf}
-use Rattle.samples.specs.Limits.{allInRange}
-use Rattle.samples.specs.Normalisation.{normalised}
-use Rattle.bank.specs.declared.state.EkfTrackingBank.{EkfTrackingBank}
-use Rattle.bank.specs.Readings.{scale, hertz, phaseAt}
-use Rattle.bank.specs.Discrepancy.{hertz32, frequencyDiffs, weight, jointWeight, orZero, weightedMean, discrepancy}
-use Rattle.bank.specs.Pruning.{prunedBy, pruned}
-use Rattle.bank.specs.Choice.{better, chosen, numbered}
-use Rattle.bank.specs.Fade.{marked, settledBy, settled, finished}
-use Rattle.bank.specs.Following.{Lists, onStretch, bankFollowed}
+use Rattle.tracker_model.specs.Following.{followed, overLists}
+use Rattle.estimate_correlation.specs.Correlation.{prepared}
+use Rattle.estimate_correlation.proofs.SampleLaws.{prepared-count}
+use Rattle.estimate_esprit.proofs.EstimateCases.{too-few}
+use Rattle.estimate_snr.specs.MomentEstimate.{lowest, snrOf}
+use Rattle.channel_samples.specs.Limits.{allInRange}
+use Rattle.channel_samples.specs.Normalisation.{normalised}
+use Rattle.bank_model.specs.declared.state.EkfTrackingBank.{EkfTrackingBank}
+use Rattle.tracker_readings.specs.Readings.{scale, hertz, phaseAt}
+use Rattle.bank_model.specs.Discrepancy.{hertz32, frequencyDiffs, weight, jointWeight, orZero, weightedMean, discrepancy}
+use Rattle.bank_model.specs.Pruning.{pruned}
+use Rattle.bank_model.specs.Choice.{better, chosen, numbered}
+use Rattle.bank_model.specs.Values.{marked}
+use Rattle.bank_model.specs.Fade.{selected, finished}
+use Rattle.bank_model.specs.Following.{Lists, sampleBySample, bankFollowed}
 use Rattle.channel_model.specs.declared.Setup.{Setup}
 use Rattle.channel_model.specs.declared.Channel.{Channel}
 use Rattle.channel_model.specs.Values.{moved, withAll, withSnr, unlocked, allUnlocked}
-use Rattle.channel_model.specs.Opening.{badRate, badRatio, openRefusal, modulationOf, whole, fadeSteps, withSwitches, newTracker, newSetup, restingBank, idleChannel, newChannel, openedBy, opened}
+use Rattle.channel_model.specs.Opening.{badRate, badRatio, openRefusal, modulationOf, whole, fadeSteps, newTracker, newSetup, restingBank, idleChannel, newChannel, openedBy, opened}
 use Rattle.channel_model.specs.Assigning.{goodCarrier, goodCarriers, idle, assignRefusal, withCarriers, assignedBy, assigned}
 use Rattle.channel_model.specs.Readout.{centre, frequencyAt, readFrom}
 use Rattle.channel_model.specs.Answers.{answerOf}
 use Rattle.channel_model.specs.Refusals.{badLength, badSecond, refusalBy, blockRefusal}
 use Rattle.channel_model.specs.Starting.{starts, chunk, squares, startFrequency, restarted, restartedIf, startedUnlocked, startedAt, startedBy, started}
 use Rattle.channel_model.specs.Tracking.{followedBy, scaleOf, bankShownBy, bankShown, shownBy}
-use Rattle.channel_model.specs.Blocks.{Outcome, untouched, muted, remembered, silentBank, silenced, secondNormalised, shownWith, trackedOver, signalled, byFlag, byStatus, byRefusal, blocked}
-use Rattle.passlines.specs.declared.lines.Shown.{Shown}
+use Rattle.channel_model.specs.Blocks.{Outcome, untouched, notLocked, remembered, bankWithoutSignal, withoutSignal, secondNormalised, shownWith, trackedOver, withSignal, byFlag, byStatus, byRefusal, blocked}
+use Rattle.pass_writer.specs.declared.lines.Shown.{Shown}
 use Rattle.worked_values.specs.Openings.{accepted}
 use Rattle.worked_values.specs.PassList.{passSettings, passOpened, passCarriers, passAssigned, noSamples, Windows, block1, block2, block3, line1, line2, line3, Shows}
 
@@ -95,7 +96,7 @@ good-3 = refl
 -- ---- block 1: no signal
 
 abbrev channel1 : Channel
-channel1 = silenced assignedChannel []
+channel1 = withoutSignal assignedChannel []
 
 accepts-1 : Accepts assignedChannel
 unfolding withCarriers newChannel idleChannel newSetup idle
@@ -106,7 +107,7 @@ unfolding byFlag
 block1-is w1 = ap (λ r. blocked (r .channel) (noSamples 0) (w1 .numbers)) assigned-is ∙ by-flag assignedChannel 0 w1 accepts-1 good-0
 
 pub pass-block-1 : (w1 : Windows) → Shows (block1 w1 .answer) line1
-unfolding untouched answerOf silenced silentBank remembered moved withSnr snrOf neg withCarriers newChannel idleChannel newSetup restingBank ofBits
+unfolding untouched answerOf withoutSignal bankWithoutSignal remembered moved withSnr snrOf neg withCarriers newChannel idleChannel newSetup restingBank ofBits
 pass-block-1 w1 = subst (λ o. Shows (o .answer) line1) (sym (block1-is w1)) (record { accepted = refl; shown = refl })
 
 -- ---- block 2: a signal of no samples. All trackers start at 0 Hz, since nothing is estimated, and the first one is chosen
@@ -127,11 +128,11 @@ abbrev startedChannel : Channel
 startedChannel = withAll channel1 fresh freshBank
 
 starts-1 : starts channel1 ≡ true
-unfolding starts silenced remembered moved unlocked withCarriers newChannel idleChannel
+unfolding starts withoutSignal remembered moved unlocked withCarriers newChannel idleChannel
 starts-1 = refl
 
 starts-at-0 : startedAt float.zero channel1 ≡ startedChannel
-unfolding startedAt moved startedUnlocked restartedIf restarted resetTo silenced silentBank allUnlocked unlocked remembered withCarriers newChannel idleChannel restingBank
+unfolding startedAt moved startedUnlocked restartedIf restarted resetTo withoutSignal bankWithoutSignal allUnlocked unlocked remembered withCarriers newChannel idleChannel restingBank
 starts-at-0 = refl
 
 started-1 : started channel1 [] ≡ startedChannel
@@ -143,12 +144,12 @@ abbrev nothing : Lists
 nothing = record { two = false; first = []; second = [] }
 
 stands : (c : Channel) (w : List Float) → followedBy true c nothing w .0 ≡ c
-unfolding followedBy withAll moved bankFollowed onStretch within overLists followed fold pairs
+unfolding followedBy withAll moved bankFollowed sampleBySample fold pairs
 stands c w = refl
 
 -- the bank prunes nothing and chooses tracker 0
 chooses : finished (scaleOf startedChannel) freshBank ≡ marked freshBank 0 false 0 false
-unfolding finished settled settledBy pruned prunedBy chosen better discrepancy weightedMean frequencyDiffs jointWeight weight hertz32 hertz scale orZero restingBank restarted resetTo newTracker withSwitches tracker.opened modulationOf convert absolute ofBits sub mul div lt isNan
+unfolding finished selected pruned chosen better discrepancy weightedMean frequencyDiffs jointWeight weight hertz32 hertz scale orZero restingBank restarted resetTo newTracker initialTracker modulationOf convert absolute ofBits sub mul div lt isNan
 chooses = refl
 
 -- what is shown then, and the SNR of no samples
@@ -156,7 +157,7 @@ abbrev channel2 : Channel
 channel2 = remembered (bankShownBy true (marked freshBank 0 false 0 false) startedChannel) lowest
 
 shows-2 : shownWith lowest startedChannel ≡ channel2
-unfolding shownWith shownBy bankShown withAll silenced remembered moved withCarriers newChannel idleChannel newSetup
+unfolding shownWith shownBy bankShown withAll withoutSignal remembered moved withCarriers newChannel idleChannel newSetup
 shows-2 = ap (λ b. remembered (bankShown b startedChannel) lowest) chooses
 
 abbrev windows2 : List Float → List Float
@@ -166,26 +167,26 @@ abbrev outcome2 : List Float → Outcome
 outcome2 w = record { answer = answerOf channel2; channel = channel2; first = []; second = []; windows = windows2 w }
 
 tracked-2 : (w : List Float) → trackedOver lowest startedChannel [] [] w ≡ outcome2 w
-unfolding trackedOver withAll silenced remembered moved withCarriers newChannel idleChannel newSetup
+unfolding trackedOver withAll withoutSignal remembered moved withCarriers newChannel idleChannel newSetup
 tracked-2 w =
     ap (λ (c : Channel). record { answer = answerOf c; channel = c; first = []; second = []; windows = windows2 w })
     (ap (shownWith lowest) (stands startedChannel w) ∙ shows-2)
 
-signalled-2 : (w : List Float) → signalled channel1 (noSamples 1) w ≡ outcome2 w
-unfolding signalled normalised mapPairs secondNormalised snrOf silenced remembered moved withCarriers newChannel idleChannel newSetup
-signalled-2 w = ap (λ c. trackedOver lowest c [] [] w) started-1 ∙ tracked-2 w
+with-signal-2 : (w : List Float) → withSignal channel1 (noSamples 1) w ≡ outcome2 w
+unfolding withSignal normalised mapPairs secondNormalised snrOf withoutSignal remembered moved withCarriers newChannel idleChannel newSetup
+with-signal-2 w = ap (λ c. trackedOver lowest c [] [] w) started-1 ∙ tracked-2 w
 
 accepts-2 : Accepts channel1
-unfolding silenced remembered moved withCarriers newChannel idleChannel newSetup idle
+unfolding withoutSignal remembered moved withCarriers newChannel idleChannel newSetup idle
 accepts-2 = record { one-frequency = refl; assigned-to = refl }
 
 block2-is : (w1 w2 : Windows) → block2 w1 w2 ≡ outcome2 (w2 .numbers)
 unfolding untouched byFlag
 block2-is w1 w2 =
-    ap (λ o. blocked (o .channel) (noSamples 1) (w2 .numbers)) (block1-is w1) ∙ by-flag channel1 1 w2 accepts-2 good-1 ∙ signalled-2 (w2 .numbers)
+    ap (λ o. blocked (o .channel) (noSamples 1) (w2 .numbers)) (block1-is w1) ∙ by-flag channel1 1 w2 accepts-2 good-1 ∙ with-signal-2 (w2 .numbers)
 
 answers-2 : Shows (answerOf channel2) line2
-unfolding answerOf remembered bankShownBy moved withSnr readFrom frequencyAt centre phaseAt hertz scaleOf scale numbered withAll restarted resetTo silenced withCarriers newChannel idleChannel newSetup restingBank newTracker withSwitches tracker.opened modulationOf whole eq ofBits ofInt add mul div neg
+unfolding answerOf remembered bankShownBy moved withSnr readFrom frequencyAt centre phaseAt hertz scaleOf scale numbered withAll restarted resetTo withoutSignal withCarriers newChannel idleChannel newSetup restingBank newTracker initialTracker modulationOf whole eq ofBits ofInt add mul div neg
 answers-2 = record { accepted = refl; shown = refl }
 
 pub pass-block-2 : (w1 w2 : Windows) → Shows (block2 w1 w2 .answer) line2
@@ -194,10 +195,10 @@ pass-block-2 w1 w2 = subst (λ o. Shows (o .answer) line2) (sym (block2-is w1 w2
 -- ---- block 3: clipped. `pll_tracker` is unlocked, and the bank's trackers are as they were
 
 abbrev channel3 : Channel
-channel3 = muted channel2 (unlocked (channel2 .pll)) (ofBits binary64 0x3fe0_0000_0000_0000)
+channel3 = notLocked channel2 (unlocked (channel2 .pll)) (ofBits binary64 0x3fe0_0000_0000_0000)
 
 accepts-3 : Accepts channel2
-unfolding remembered bankShownBy withAll silenced moved withCarriers newChannel idleChannel newSetup idle
+unfolding remembered bankShownBy withAll withoutSignal moved withCarriers newChannel idleChannel newSetup idle
 accepts-3 = record { one-frequency = refl; assigned-to = refl }
 
 block3-is : (w1 w2 w3 : Windows) → block3 w1 w2 w3 ≡ untouched channel3 (noSamples 3) (w3 .numbers)
@@ -218,7 +219,7 @@ clippedLine l =
     }
 
 answers-3 : (w : List Float) → Shows (untouched channel3 (noSamples 3) w .answer) line3
-unfolding untouched muted moved withSnr answerOf
+unfolding untouched notLocked moved withSnr answerOf
 answers-3 w = record { accepted = refl; shown = ap clippedLine (answers-2 .shown) }
 
 pub pass-block-3 : (w1 w2 w3 : Windows) → Shows (block3 w1 w2 w3 .answer) line3

@@ -5,11 +5,11 @@ use Rattle.sequences.specs.Pairs.{pairs}
 use Rattle.sequences.specs.Folds.{some}
 use Rattle.ieee754.specs.SquareRoot.{sqrt}
 use Rattle.ieee754.specs.Sign.{absolute}
-use Rattle.arctangent.specs.Steps.{atan2Of, upperAngle}
+use Rattle.elementary_arctangent.specs.Steps.{atan2Of, upperAngle}
 use Rattle.survey.specs.Survey.{surveyOf}
-use Rattle.snr.proofs.WorkedValues.{none-value, four-value}
-use Rattle.esprit.proofs.WorkedValues.{nine-value}
-use Rattle.dispersion.proofs.WorkedValues.{cancel-value}
+use Rattle.estimate_snr.proofs.WorkedValues.{none-value, four-value}
+use Rattle.estimate_esprit.proofs.WorkedValues.{nine-value}
+use Rattle.estimate_dispersion.proofs.WorkedValues.{cancel-value}
 use Rattle.channel_model.specs.Opening.{badRate, whole, decimatedRate}
 use Rattle.worked_values.proofs.RatesAndFades.{refused-rate, accepted-rate, fade-steps}
 use Rattle.worked_values.proofs.PassExample.{pass-opens, pass-assigns, pass-block-1, pass-block-2, pass-block-3}

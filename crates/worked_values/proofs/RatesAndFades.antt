@@ -4,7 +4,7 @@ use mathlib.Core.Path.{_≡_, _∙_}
 use mathlib.Core.Bool.{true, false}
 use lib.Ieee.{binary64, ofBits, toUnsigned}
 use borrow.Author.Tests.{le-ltb}
-use Rattle.covariance.specs.Float64.{times, over}
+use Rattle.ieee754.specs.Binary64.{times, over}
 use Rattle.channel_model.specs.declared.Settings.{Settings}
 use Rattle.channel_model.specs.Opening.{badRate, badRatio, openRefusal, whole, decimatedRate, fadeSteps, openedBy, opened}
 use Rattle.worked_values.specs.Openings.{RateOf, RestGood, accepted, refused}

@@ -2,7 +2,8 @@
 use Prim.Native.Nat.{ℕ, _≤_}
 use mathlib.Core.Path.{_≡_}
 use mathlib.Core.Bool.{true}
-use lib.Ieee.{binary64, ofBits, le}
+use lib.Ieee.{le}
+use Rattle.ieee754.specs.Binary64 as float
 use Rattle.channel_model.specs.declared.Settings.{Settings}
 use Rattle.channel_model.specs.declared.Returned.{Returned}
 use Rattle.channel_model.specs.Opening.{newChannel, refusedSettings}
@@ -16,8 +17,8 @@ pub record RateOf (rate : ℕ) (s : Settings) : Type 0 where
 pub record RestGood (s : Settings) : Type 0 where
   pub modulation-good : s .modulation ≤ 2
   pub fade-good : s .fade ≤ 86400
-  pub ratio-from : le (ofBits binary64 0x3fd0_0000_0000_0000) (s .ratio) ≡ true
-  pub ratio-to : le (s .ratio) (ofBits binary64 0x4010_0000_0000_0000) ≡ true
+  pub ratio-from : le float.quarter (s .ratio) ≡ true
+  pub ratio-to : le (s .ratio) float.four ≡ true
 
 -- a channel as the settings say, and no refusal
 abbrev pub accepted : Settings → Returned

@@ -1,4 +1,4 @@
--- The example of 01's "The pass text and its list": the calls that its input asks for, and the lines of its output. Every block brings a
+-- The example of the scope's "The pass text and its list": the calls that its input asks for, and the lines of its output. Every block brings a
 -- window memory of its own. Definitions only.
 use Prim.Native.Nat.{ℕ}
 use mathlib.Core.Path.{_≡_}
@@ -6,8 +6,8 @@ use mathlib.Core.Bool.{Bool, true, false}
 use mathlib.Core.List.{List, []}
 use lib.ListN.{length}
 use lib.Ieee.{Float, binary64, ofBits}
-use Rattle.covariance.specs.Float64 as float
-use Rattle.covariance.specs.Float64.{one}
+use Rattle.ieee754.specs.Binary64 as float
+use Rattle.ieee754.specs.Binary64.{one}
 use Rattle.channel_model.specs.declared.Settings.{Settings}
 use Rattle.channel_model.specs.declared.Carriers.{Carriers}
 use Rattle.channel_model.specs.declared.Returned.{Returned}
@@ -16,7 +16,7 @@ use Rattle.channel_model.specs.Opening.{whole, opened}
 use Rattle.channel_model.specs.Assigning.{assigned}
 use Rattle.channel_model.specs.Refusals.{BlockArgs}
 use Rattle.channel_model.specs.Blocks.{Outcome, blocked}
-use Rattle.passlines.specs.declared.lines.Shown.{Shown}
+use Rattle.pass_writer.specs.declared.lines.Shown.{Shown}
 
 -- `40000 1 0 1 1 1 5`: rate, factor, modulation, adaptive, dual, bank, fade; one frequency, ratio 1
 abbrev pub passSettings : Settings

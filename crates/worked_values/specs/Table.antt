@@ -4,15 +4,17 @@ use mathlib.Core.Path.{_≡_}
 use mathlib.Core.Bool.{Bool, true, false}
 use mathlib.Core.List.{List, [], _∷_}
 use lib.ListN.{length}
-use lib.Ieee.{Float, nan, binary32, binary64, ofBits}
+use lib.Ieee.{Float, nan, binary64, ofBits}
+use Rattle.ieee754.specs.Binary64 as float
+use Rattle.ieee754.specs.Binary32 as float32
 use Rattle.sequences.specs.Pairs.{pairs}
 use Rattle.ieee754.specs.SquareRoot.{sqrt}
-use Rattle.arctangent.specs.Steps.{atan2Of}
+use Rattle.elementary_arctangent.specs.Steps.{atan2Of}
 use Rattle.survey.specs.Survey.{surveyOf}
-use Rattle.snr.specs.MomentEstimate.{snrOf}
-use Rattle.correlation.specs.Correlation.{prepared}
-use Rattle.esprit.specs.Esprit.{estimate}
-use Rattle.dispersion.specs.Dispersion.{dispersionFree}
+use Rattle.estimate_snr.specs.MomentEstimate.{snrOf}
+use Rattle.estimate_correlation.specs.Correlation.{prepared}
+use Rattle.estimate_esprit.specs.Esprit.{estimate}
+use Rattle.estimate_dispersion.specs.Dispersion.{dispersionFree}
 use Rattle.channel_model.specs.declared.Settings.{Settings}
 use Rattle.channel_model.specs.Opening.{fadeSteps, opened}
 use Rattle.worked_values.specs.Openings.{RateOf, RestGood, accepted, refused}
@@ -20,44 +22,44 @@ use Rattle.worked_values.specs.PassList.{passSettings, passOpened, passA
 
 -- f32 numbers by their patterns
 abbrev zero32 : Float
-zero32 = ofBits binary32 0
+zero32 = float32.zero
 
 -- 0.5
 abbrev half32 : Float
-half32 = ofBits binary32 0x3f00_0000
+half32 = float32.half
 
 -- 1
 abbrev one32 : Float
-one32 = ofBits binary32 0x3f80_0000
+one32 = float32.one
 
 -- 9
 abbrev nine32 : Float
-nine32 = ofBits binary32 0x4110_0000
+nine32 = float32.nine
 
 -- f64 numbers: 0, 1, 2, 3, 4, 40 and their negatives by their patterns
 abbrev zero64 : Float
-zero64 = ofBits binary64 0
+zero64 = float.zero
 
 abbrev one64 : Float
-one64 = ofBits binary64 0x3ff0_0000_0000_0000
+one64 = float.one
 
 abbrev minusOne64 : Float
-minusOne64 = ofBits binary64 0xbff0_0000_0000_0000
+minusOne64 = float.minusOne
 
 abbrev two64 : Float
-two64 = ofBits binary64 0x4000_0000_0000_0000
+two64 = float.two
 
 abbrev three64 : Float
-three64 = ofBits binary64 0x4008_0000_0000_0000
+three64 = float.three
 
 abbrev four64 : Float
-four64 = ofBits binary64 0x4010_0000_0000_0000
+four64 = float.four
 
 abbrev forty64 : Float
-forty64 = ofBits binary64 0x4044_0000_0000_0000
+forty64 = float.forty
 
 abbrev minusTwenty64 : Float
-minusTwenty64 = ofBits binary64 0xc034_0000_0000_0000
+minusTwenty64 = float.minusTwenty
 
 pub record WorkedValues : Type 0 where
   -- factor 1, rate 999 refused 1; 1,000 and 100,000 open; 100,001 refused 1: whatever the rest of the settings is, or any good one to open
@@ -70,7 +72,7 @@ pub record WorkedValues : Type 0 where
   pub fade-at-1000 : (s : Settings) → RateOf 1000 s → s .fade ≡ 5 → fadeSteps s ≡ 0
   pub fade-at-100000 : (s : Settings) → RateOf 100000 s → s .fade ≡ 86400 → fadeSteps s ≡ 216000
   -- root of 2 is 3ff6a09e667f3bcd
-  pub root-of-2 : sqrt binary64 (ofBits binary64 0x4000_0000_0000_0000) ≡ ofBits binary64 0x3ff6_a09e_667f_3bcd
+  pub root-of-2 : sqrt binary64 float.two ≡ ofBits binary64 0x3ff6_a09e_667f_3bcd
   -- atan2(+0, -1) is 400921fb54442d18
   pub atan2-left : atan2Of zero64 minusOne64 ≡ ofBits binary64 0x4009_21fb_5444_2d18
   -- survey of (1, 1) is 3; (1, 0.5) 1; (0, 0) 0; nothing 4; (NaN, 9) 2

@@ -2,7 +2,7 @@
 use mathlib.Core.Path.{sym}
 use native.Mathlib.Omega.{arith}
 use lib.Seq.{length-take-le}
-use Rattle.passrun.proofs.ListLaws.{finished-within}
+use Rattle.pass_session.proofs.ListLaws.{finished-within}
 use borrow.Author.Needs.{needs}
 use Rattle.passlist.proofs.last.Statement.{statement}
 use Rattle.passlist.proofs.last.Tie as tie

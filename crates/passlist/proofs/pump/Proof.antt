@@ -2,14 +2,14 @@
 use mathlib.Core.Path.{_≡_}
 use lib.ListN.{length}
 use borrow.Author.Needs.{needs}
-use Rattle.passlist.specs.Flow.{Within}
+use Rattle.passlist.specs.Code.Flow.{InBuffers}
 use Rattle.passlist.proofs.pump.Statement.{statement}
 use Rattle.passlist.proofs.pump.Tie as tie
 
 abbrev Inv-loop : tie.InvT-loop
 Inv-loop buf₀ windows₀ out₀ f₀ turns₀ buf windows out f turns =
     (length buf ≡ length buf₀) × (length windows ≡ length windows₀) × (length out ≡ length out₀)
-    × Within (f .left) (f .at) (length buf₀) (length out₀)
+    × InBuffers (f .left) (f .at) (length buf₀) (length out₀)
 
 abbrev μ-loop : tie.MeasureT-loop
 μ-loop buf₀ windows₀ out₀ f₀ turns₀ buf windows out f turns = turns

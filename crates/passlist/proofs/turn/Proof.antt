@@ -3,7 +3,7 @@ use mathlib.Core.Path.{sym, _∙_}
 use native.Mathlib.Omega.{arith}
 use lib.Seq.{length-take-le}
 use borrow.Author.Tests.{leb-true, not-false}
-use Rattle.passrun.proofs.ListLaws.{ran-within}
+use Rattle.pass_session.proofs.ListLaws.{ran-within}
 use Rattle.passlist.proofs.FlowLaws.{carried-within}
 use borrow.Author.Needs.{needs}
 use Rattle.passlist.proofs.turn.Statement.{statement}

@@ -1,15 +1,11 @@
 -- `survey::looked_at` meets its contract: a number that differs from itself is a NaN. Assumes nothing.
 use mathlib.Core.Path.{_≡_, refl, ap, _∙_}
-use mathlib.Core.Bool.{Bool, true, false, _||_}
+use mathlib.Core.Bool.{Bool, _||_, or-assoc}
 use lib.Ieee.{Float, ne, isNan}
 use Rattle.ieee754.proofs.Fields.{differs-is-nan}
 use Rattle.survey.specs.Survey.{notANumber, clipped, signal}
 use Rattle.survey.proofs.looked_at.Statement.{statement}
 use Rattle.survey.proofs.looked_at.Tie as tie
-
-or-assoc : (a b c : Bool) → ((a || b) || c) ≡ (a || (b || c))
-or-assoc true b c = refl
-or-assoc false b c = refl
 
 nan-seen : (m : Bool) (re im : Float) → ((m || ne re re) || ne im im) ≡ (m || notANumber (re, im))
 unfolding notANumber

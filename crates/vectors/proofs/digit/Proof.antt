@@ -4,7 +4,7 @@ use Prim.Native.Nat.{ℕ, _-_, _<_, _≤_}
 use native.Mathlib.Omega.{arith}
 use borrow.Author.Needs.{needs}
 use borrow.Author.Tests.{le-ltb, lt-ltb, le-leb, lt-leb}
-use Rattle.vectors.specs.Words.{digitOf}
+use Rattle.vectors.specs.Code.Words.{digitOf}
 use Rattle.vectors.proofs.digit.Statement.{statement}
 use Rattle.vectors.proofs.digit.Tie as tie
 

@@ -2,7 +2,7 @@
 use mathlib.Core.Path.{_≡_, ap}
 use Prim.Native.Nat.{ℕ, _+_, _*_, _%_, _^_}
 use borrow.Author.Needs.{needs}
-use Rattle.vectors.specs.Words.{withDigit}
+use Rattle.vectors.specs.Code.Words.{withDigit}
 use Rattle.vectors.proofs.with_digit.Statement.{statement}
 use Rattle.vectors.proofs.with_digit.Tie as tie
 

@@ -9,7 +9,7 @@ use Rattle.sequences.specs.Folds.{fold}
 use Rattle.sequences.specs.Stretches.{stretch}
 use Rattle.sequences.proofs.FoldLaws.{fold-next, fold-end}
 use Rattle.sequences.proofs.StretchLaws.{stretch-at, length-stretch}
-use Rattle.vectors.specs.Words.{withDigit, wordAt}
+use Rattle.vectors.specs.Code.Words.{withDigit, wordAt}
 use Rattle.vectors.proofs.word_at.Statement.{statement}
 use Rattle.vectors.proofs.word_at.Tie as tie
 

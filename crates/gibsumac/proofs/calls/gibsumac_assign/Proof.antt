@@ -2,6 +2,7 @@
 use mathlib.Core.Path.{_∙_, ap}
 use Rattle.channel_model.specs.declared.Channel.{Channel}
 use Rattle.channel_model.specs.Assigning.{assigned}
+use Rattle.channel_c_layout.specs.Calls.{assignedC}
 use Rattle.gibsumac.proofs.PlainLaws.{returned-is}
 use borrow.Author.Needs.{needs}
 use Rattle.gibsumac.proofs.calls.gibsumac_assign.Statement.{statement}
@@ -17,6 +18,7 @@ to-plain-channel-requires : tie.Need-to-plain-channel-requires
 to-plain-channel-requires c κs = search needs
 
 returns : tie.Need-returns
+unfolding assignedC
 returns c =
     returned-is _ _ _ (c .before .assign .ensures ∙ ap (λ (x : Channel). assigned x (c .before .before .before .args .carriers)) (c .before .before .to-real-channel .ensures))
     (c .to-plain-channel .ensures)

@@ -6,7 +6,7 @@ use mathlib.Core.Path.{_≡_, refl, sym, ap, _∙_, subst}
 use mathlib.Core.Bool.{Bool, true, false, not, cond}
 use lib.Dec.{T, ltb, ltb→lt, nltb→le}
 use borrow.Author.Needs.{needs}
-use Rattle.ieee754.specs.Conversion.{nearestQuotient, roundingCarry}
+use Rattle.ieee754.specs.Code.Quotients.{nearestQuotient, roundingCarry}
 use Rattle.ieee754.proofs.ConversionCases.{unit-pos, rounded-lt, rounded-gt, rounded-eq, quotient-le}
 use Rattle.ieee754.proofs.conversion.rounded_quotient.Statement.{statement}
 use Rattle.ieee754.proofs.conversion.rounded_quotient.Tie as tie

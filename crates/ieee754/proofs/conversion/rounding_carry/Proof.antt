@@ -1,6 +1,6 @@
 -- `ieee754::conversion::carry` meets its contract.
 use borrow.Author.Tests.{lt-ltb, le-ltb}
-use Rattle.ieee754.specs.Conversion.{roundingCarry}
+use Rattle.ieee754.specs.Code.Quotients.{roundingCarry}
 use Rattle.ieee754.proofs.conversion.rounding_carry.Statement.{statement}
 use Rattle.ieee754.proofs.conversion.rounding_carry.Tie as tie
 

@@ -6,12 +6,12 @@ use Prim.Native.Nat.{ℕ, _+_, _-_, _*_, _/_, _%_, _^_, _≤_, _<_}
 use native.Mathlib.Omega.{arith}
 use lib.Dec.{T}
 use lib.Ieee.{Float, nan, binary64, fits, isNan, lt, le, eq, ofBits, rem, add}
-use Rattle.ieee754.proofs.RoundAwayCases.{away-small, half-small, away-normal, away-le}
+use Rattle.ieee754.proofs.RoundAwayCases.{away-small, half-small, away-shifted, away-le}
 use Rattle.ieee754.proofs.integral.whole_away.Statement.{statement}
 use Rattle.ieee754.proofs.integral.whole_away.Tie as tie
 
 returns : tie.Need-returns
-returns c = (λ s. away-small s (c .before .args .a) (c .if1 .taken), omega arith)
+returns c = (λ s. away-small binary64 s (c .before .args .a) (c .if1 .taken), omega arith)
 
 add-m : tie.Need-add-m
 add-m c = search needs
@@ -23,7 +23,7 @@ shl-result : tie.Need-shl-result
 shl-result c = search needs
 
 add-result : tie.Need-add-result
-add-result c = let h = half-small (c .before .args .a) (c .if1 .left) (c .before .pre) in omega arith
+add-result c = let h = half-small (c .before .args .a) (c .if1 .left) in omega arith
 
 sub-result-2 : tie.Need-sub-result-2
 sub-result-2 c = search needs
@@ -34,10 +34,10 @@ shr-result c = search needs
 returns-2 : tie.Need-returns-2
 returns-2 c =
     let a = c .before .args .a in
-    let h = half-small a (c .if1 .left) (c .before .pre) in
+    let h = half-small a (c .if1 .left) in
     let g : a % 2 ^ 52 + 2 ^ 52 + 1 * 2 ^ (1074 - a / 2 ^ 52) % 2 ^ 64 < 2 ^ 54 = omega arith in
     let k : 1 ≤ 1075 - a / 2 ^ 52 = omega arith in
-    (λ s. away-normal a (c .if1 .left) (c .before .pre) s, away-le _ (1075 - a / 2 ^ 52) g k)
+    (λ s. away-shifted a (c .if1 .left) s (c .before .pre), away-le _ (1075 - a / 2 ^ 52) g k)
 
 pub whole-away-spec : {M : Type 1} → statement M
 whole-away-spec =

@@ -1,6 +1,6 @@
 -- `is_ended`, by the stage.
 use mathlib.Core.Path.{ap, sym}
-use Rattle.pass_setup.specs.Listing.{isEnded}
+use Rattle.pass_setup.specs.Code.Buffers.{isEnded}
 use borrow.Author.Needs.{needs}
 use Rattle.pass_setup.proofs.ending.is_ended.Statement.{statement}
 use Rattle.pass_setup.proofs.ending.is_ended.Tie as tie

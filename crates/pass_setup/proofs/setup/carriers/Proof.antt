@@ -1,6 +1,6 @@
 -- `carriers`, from the two values that are given.
 use lib.Ieee.{ofBits}
-use Rattle.covariance.specs.Float64 as float
+use Rattle.ieee754.specs.Binary64 as float
 use Rattle.channel_model.specs.Opening.{whole}
 use Rattle.pass_setup.specs.Opening.{carriersOf}
 use borrow.Author.Needs.{needs}

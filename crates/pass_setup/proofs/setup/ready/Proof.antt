@@ -1,6 +1,5 @@
 -- `ready`: assign comes after an accepted open.
-use Rattle.passtext.specs.Lines.{setupSaid}
-use Rattle.passtext.specs.declared.values.Setup.the-variants.{Read}
+use Rattle.pass_reader.specs.Code.Answers.{valuesOf}
 use Rattle.pass_setup.proofs.LineCases.{not-opened, opened-assigned}
 use borrow.Author.Needs.{needs}
 use Rattle.pass_setup.proofs.setup.ready.Statement.{statement}
@@ -13,7 +12,7 @@ open-requires : tie.Need-open-requires
 open-requires c κs = search needs
 
 returns : tie.Need-returns
-returns c = not-opened (setupSaid (Read (c .before .before .before .before .args .v)) .1) (c .before .before .before .settings .ensures) (c .before .before .open .ensures) (c .if1 .taken)
+returns c = not-opened (valuesOf (c .before .before .before .before .args .v)) (c .before .before .before .settings .ensures) (c .before .before .open .ensures) (c .if1 .taken)
 
 carriers-requires : tie.Need-carriers-requires
 carriers-requires c κs = search needs
@@ -23,7 +22,7 @@ assign-requires c κs = search needs
 
 returns-2 : tie.Need-returns-2
 returns-2 c =
-    opened-assigned (setupSaid (Read (c .before .before .before .before .before .before .before .args .v)) .1) (c .before .before .before .before .before .before .settings .ensures) (c .before .before .before .before .before .open .ensures) (c .before .before .before .if1 .left) (c .before .before .carriers .ensures)
+    opened-assigned (valuesOf (c .before .before .before .before .before .before .before .args .v)) (c .before .before .before .before .before .before .settings .ensures) (c .before .before .before .before .before .open .ensures) (c .before .before .before .if1 .left) (c .before .before .carriers .ensures)
     (c .assign .ensures)
 
 pub ready-spec : {M : Type 1} → statement M

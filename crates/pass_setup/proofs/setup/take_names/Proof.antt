@@ -1,5 +1,6 @@
 -- `take_names`, by the refusal number.
-use Rattle.pass_setup.proofs.LineCases.{printed-as, taken-printed, names-refused, names-taken}
+use Rattle.pass_setup.specs.Judging.{lineTaken}
+use Rattle.pass_setup.proofs.LineCases.{printed-as, taken-printed, or-refused, or-judged}
 use borrow.Author.Needs.{needs}
 use Rattle.pass_setup.proofs.setup.take_names.Statement.{statement}
 use Rattle.pass_setup.proofs.setup.take_names.Tie as tie
@@ -11,7 +12,7 @@ same-length : tie.Need-same-length
 same-length c = search needs
 
 returns : tie.Need-returns
-returns c = printed-as (c .before .before .before .before .before .before .args .at) (c .before .before .before .before .before .before .args .out .now) (c .before .before .refuse .ensures) (names-refused (c .before .before .before .before .before .before .args .p) (c .before .before .before .before .before .before .args .refusal) (c .before .before .before .before .before .before .args .next) (c .before .before .before .before .if1 .taken))
+returns c = printed-as (c .before .before .before .before .before .before .args .at) (c .before .before .before .before .before .before .args .out .now) (c .before .before .refuse .ensures) (or-refused (c .before .before .before .before .before .before .args .p) (lineTaken (c .before .before .before .before .before .before .args .next) (c .before .before .before .before .before .before .args .p .channel) (c .before .before .before .before .before .before .args .p)) (c .before .before .before .before .before .before .args .refusal) (c .before .before .before .before .if1 .taken))
 
 take-requires : tie.Need-take-requires
 take-requires c κs = search needs
@@ -19,7 +20,7 @@ take-requires c κs = search needs
 returns-2 : tie.Need-returns-2
 returns-2 c =
     printed-as (c .before .before .before .before .args .at) (c .before .before .before .before .args .out .now) (taken-printed (c .before .before .before .before .args .p) (c .before .before .before .before .args .at) (c .before .before .before .before .args .out .now) (c .before .before .before .before .args .next) (c .before .before .before .before .args .p .channel) (c .take .ensures))
-    (names-taken (c .before .before .before .before .args .p) (c .before .before .before .before .args .refusal) (c .before .before .before .before .args .next) (c .before .before .if1 .left))
+    (or-judged (c .before .before .before .before .args .p) (lineTaken (c .before .before .before .before .args .next) (c .before .before .before .before .args .p .channel) (c .before .before .before .before .args .p)) (c .before .before .before .before .args .refusal) (c .before .before .if1 .left))
 
 pub take-names-spec : {M : Type 1} → statement M
 take-names-spec = tie.close (tie.spec refuse-requires same-length returns take-requires returns-2)

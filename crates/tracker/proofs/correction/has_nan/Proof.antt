@@ -1,7 +1,7 @@
 -- `has_nan`: only a NaN differs from itself.
 use mathlib.Core.Bool.{_||_}
 use borrow.Author.Needs.{needs}
-use Rattle.covariance.specs.Matrix.{el}
+use Rattle.tracker_covariance.specs.Matrix.{el}
 use Rattle.tracker.proofs.NanTest.{differs}
 use Rattle.tracker.specs.Correction.{anyNan}
 use Rattle.tracker.proofs.correction.has_nan.Statement.{statement}

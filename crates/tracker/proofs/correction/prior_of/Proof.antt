@@ -2,7 +2,7 @@
 use mathlib.Core.Path.{ap}
 use native.Mathlib.Omega.{arith}
 use borrow.Author.Needs.{needs}
-use Rattle.covariance.proofs.Phases.{phase-small}
+use Rattle.tracker_covariance.proofs.Phases.{phase-small}
 use Rattle.tracker.specs.Correction.{priorOf}
 use Rattle.tracker.proofs.correction.prior_of.Statement.{statement}
 use Rattle.tracker.proofs.correction.prior_of.Tie as tie
@@ -11,10 +11,10 @@ phase-index-requires : tie.Need-phase-index-requires
 phase-index-requires c κs = search needs
 
 mul-t6 : tie.Need-mul-t6
-mul-t6 c = record { fits = omega (arith, phase-small (c .before .before .args .channel), c .phase-index .ensures) }
+mul-t6 c = record { fits = omega (arith, phase-small (c .before .before .args .band), c .phase-index .ensures) }
 
 array-read-t9 : tie.Need-array-read-t9
-array-read-t9 c = omega (arith, phase-small (c .before .before .args .channel), c .phase-index .ensures)
+array-read-t9 c = omega (arith, phase-small (c .before .before .args .band), c .phase-index .ensures)
 
 returns : tie.Need-returns
 returns c = ap (priorOf (c .before .before .args .t)) (c .phase-index .ensures)

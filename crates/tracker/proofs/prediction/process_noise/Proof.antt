@@ -1,5 +1,5 @@
-use Rattle.covariance.specs.Float64.{times}
 -- `process_noise`, operation by operation.
+use Rattle.ieee754.specs.Binary64.{times}
 use borrow.Author.Needs.{needs}
 use Rattle.tracker.specs.Prediction.{processNoise}
 use Rattle.tracker.proofs.prediction.process_noise.Statement.{statement}
@@ -11,13 +11,14 @@ noise-scale-requires c κs = search needs
 returns : tie.Need-returns
 unfolding processNoise
 returns c =
-    let a = c .before .before .before .before .args .t in
+    let g = c .before .before .before .before .args in
+    let a = g .t in
     let s = c .before .before .before .noise-scale .ensures in
     λ j.
     record {
-      «q_p» = times (times (a .«q_phase») (s j)) (a .ts);
-      «q_f» = times (times (a .«q_freq») (s j)) (a .ts);
-      «q_c» = times (times (a .«q_chirp») (s j)) (a .ts);
+      «q_p» = times (times (a .«q_phase») (s j)) (g .dt);
+      «q_f» = times (times (a .«q_freq») (s j)) (g .dt);
+      «q_c» = times (times (a .«q_chirp») (s j)) (g .dt);
       ratio = a .«frequency_ratio»;
     }
 

@@ -1,7 +1,7 @@
 -- `vectors::numbers::mix` meets its contract. Assumes nothing.
 use mathlib.Core.Path.{_≡_, ap}
 use Prim.Native.Nat.{ℕ, _+_, _-_, _*_, _%_, _^_}
-use Rattle.vectors.specs.Words.{mixed}
+use Rattle.vectors.specs.Code.Words.{mixed}
 use borrow.Author.Needs.{needs}
 use Rattle.vectors.proofs.numbers.mix.Statement.{statement}
 use Rattle.vectors.proofs.numbers.mix.Tie as tie

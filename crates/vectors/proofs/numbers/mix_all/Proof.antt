@@ -6,7 +6,7 @@ use borrow.Author.Needs.{needs}
 use lib.ListN.{length, drop}
 use Rattle.sequences.specs.Folds.{fold}
 use Rattle.sequences.proofs.FoldLaws.{fold-next, fold-end}
-use Rattle.vectors.specs.Words.{mixed}
+use Rattle.vectors.specs.Code.Words.{mixed}
 use Rattle.vectors.proofs.numbers.mix_all.Statement.{statement}
 use Rattle.vectors.proofs.numbers.mix_all.Tie as tie
 

@@ -1,10 +1,10 @@
 -- `predict`, from what the prediction of the states and of the covariance ensure.
 use mathlib.Core.Path.{ap, _∙_}
 use borrow.Author.Needs.{needs}
-use Rattle.covariance.specs.declared.prediction.ProcessNoise.{ProcessNoise}
-use Rattle.covariance.specs.Prediction.{predicted}
+use Rattle.tracker_covariance.specs.declared.prediction.ProcessNoise.{ProcessNoise}
+use Rattle.tracker_covariance.specs.Prediction.{predicted}
 use Rattle.tracker.specs.State.{withState}
-use Rattle.tracker.specs.Prediction.{predictedBy}
+use Rattle.tracker.specs.Prediction.{predictedOver}
 use Rattle.tracker.proofs.state.CarrierPllEkf.predict.Statement.{statement}
 use Rattle.tracker.proofs.state.CarrierPllEkf.predict.Tie as tie
 
@@ -18,12 +18,12 @@ predict-state-requires : tie.Need-predict-state-requires
 predict-state-requires c κs = search needs
 
 returns : tie.Need-returns
-unfolding predictedBy
+unfolding predictedOver
 returns c =
     let a = c .before .before .before .before .args in
     let q =
     c .before .predict .ensures
-    ∙ ap (λ (n : ProcessNoise). predicted (a .self .ts) n (a .p)) (c .before .before .process-noise .ensures) in
+    ∙ ap (λ (n : ProcessNoise). predicted (a .dt) n (a .p)) (c .before .before .process-noise .ensures) in
     λ j. record { ekf = withState (a .self) (c .predict-state .ensures j); p = q j }
 
 pub predict-spec : {M : Type 1} → statement M

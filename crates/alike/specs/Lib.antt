@@ -1,2 +1,0 @@
--- Module 7, three trackers that are alike.
-pub mod Alike

@@ -1,5 +1,0 @@
--- Module 2, arctangent: the angle that 01 builds from Taylor sums, what is promised, and the steps that settle the bits.
-pub mod Angle
-pub mod Directions
-pub mod Promise
-pub mod Steps

@@ -1,9 +1,0 @@
--- Module 7: the bank.
-pub mod Readings
-pub mod Discrepancy
-pub mod Pruning
-pub mod Choice
-pub mod Fade
-pub mod Features
-pub mod Following
-pub mod SampleOrder

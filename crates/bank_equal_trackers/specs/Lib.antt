@@ -1,0 +1,2 @@
+-- Module 7, three trackers that are alike.
+pub mod Code

@@ -1,3 +1,0 @@
-// Module 9 of the scope: block, the call that takes samples; open is in opening, the other three in channel_control. No call asks anything of its
-// caller; what each means is in channel_model.
-pub mod block;

@@ -1,0 +1,5 @@
+-- The C interface: a channel in C's layout, and what the exported functions return and leave. The scope does not speak of it; proofs/RoundTrip.antt shows that
+-- nothing is lost either way.
+pub mod Trackers
+pub mod Channels
+pub mod Calls

@@ -1,0 +1,151 @@
+// A channel in the layout of C.
+ghost use mathlib.Core.Path.{_≡_};
+ghost use Rattle.channel_model.specs.Assigning.{idle};
+ghost use Rattle.channel_c_layout.specs.Channels.{statusOf, plainChannel, realChannel};
+use crate::plain_tracker::PlainTracker;
+use crate::plain_tracker::to_plain;
+use crate::plain_tracker::to_real;
+use bank_model::state::EkfTrackingBank;
+use channel_model::Carriers;
+use channel_model::Channel;
+use channel_model::Reading;
+use channel_model::Setup;
+use channel_model::Status;
+
+#[repr(C)]
+pub struct PlainChannel {
+    pub pll: PlainTracker,
+    pub t0: PlainTracker,
+    pub t1: PlainTracker,
+    pub t2: PlainTracker,
+    pub rate: u64,
+    pub factor: u64,
+    pub active_idx: u64,
+    pub fade_counter: u64,
+    pub max_fade_steps: u64,
+    pub nominal: f64,
+    pub target: f64,
+    pub target2: f64,
+    pub frequency2: f64,
+    pub phase: f64,
+    pub frequency: f64,
+    pub snr: f64,
+    pub electrons: f64,
+    pub last_snr: f32,
+    pub bank: bool,
+    pub two: bool,
+    pub idle: bool,
+    pub in_fade: bool,
+    pub terminated_in_fade: bool,
+    pub ever_locked: bool,
+    pub is_locked: bool,
+}
+
+fn is_idle(s: Status) -> bool
+    ensures { λ r. ⌜ r ≡ idle s ⌝ }
+{
+    match s {
+        Status::Idle => true,
+        Status::Assigned => false,
+    }
+}
+
+fn status_of(is_idle: bool) -> Status
+    ensures { λ r. ⌜ r ≡ statusOf «is_idle» ⌝ }
+{
+    if is_idle {
+        return Status::Idle;
+    }
+    Status::Assigned
+}
+
+pub fn to_plain_channel(c: Channel) -> PlainChannel
+    ensures { λ r. ⌜ r ≡ plainChannel c ⌝ }
+{
+    let b = c.bank;
+    let pll = to_plain(c.pll);
+    let t0 = to_plain(b.t0);
+    let t1 = to_plain(b.t1);
+    let t2 = to_plain(b.t2);
+    let status = c.status;
+    let idle = is_idle(status);
+    let k = c.setup;
+    let a = c.carriers;
+    let r = c.reading;
+    PlainChannel {
+        pll,
+        t0,
+        t1,
+        t2,
+        rate: k.rate,
+        factor: k.factor,
+        active_idx: b.active_idx,
+        fade_counter: b.fade_counter,
+        max_fade_steps: b.max_fade_steps,
+        nominal: a.nominal,
+        target: a.target,
+        target2: a.target2,
+        frequency2: a.frequency2,
+        phase: r.phase,
+        frequency: r.frequency,
+        snr: r.snr,
+        electrons: r.electrons,
+        last_snr: c.last_snr,
+        bank: k.bank,
+        two: k.two,
+        idle,
+        in_fade: b.in_fade,
+        terminated_in_fade: b.terminated_in_fade,
+        ever_locked: c.ever_locked,
+        is_locked: c.is_locked,
+    }
+}
+
+pub fn to_real_channel(c: PlainChannel) -> Channel
+    ensures { λ r. ⌜ r ≡ realChannel c ⌝ }
+{
+    let pll = to_real(c.pll);
+    let t0 = to_real(c.t0);
+    let t1 = to_real(c.t1);
+    let t2 = to_real(c.t2);
+    let status = status_of(c.idle);
+    let setup = Setup {
+        rate: c.rate,
+        factor: c.factor,
+        bank: c.bank,
+        two: c.two,
+    };
+    let carriers = Carriers {
+        nominal: c.nominal,
+        target: c.target,
+        target2: c.target2,
+        frequency2: c.frequency2,
+    };
+    let bank = EkfTrackingBank {
+        t0,
+        t1,
+        t2,
+        active_idx: c.active_idx,
+        in_fade: c.in_fade,
+        fade_counter: c.fade_counter,
+        max_fade_steps: c.max_fade_steps,
+        terminated_in_fade: c.terminated_in_fade,
+    };
+    let reading = Reading {
+        phase: c.phase,
+        frequency: c.frequency,
+        snr: c.snr,
+        electrons: c.electrons,
+    };
+    Channel {
+        setup,
+        status,
+        carriers,
+        pll,
+        bank,
+        ever_locked: c.ever_locked,
+        last_snr: c.last_snr,
+        is_locked: c.is_locked,
+        reading,
+    }
+}

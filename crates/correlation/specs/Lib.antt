@@ -1,3 +1,0 @@
--- Module 4 of the scope, its first half: the correlation matrix.
-pub mod Correlation
-pub mod RunningSums

@@ -1,2 +1,0 @@
--- What the proofs of the first channel cite, on plain values.
-pub mod FirstPhase

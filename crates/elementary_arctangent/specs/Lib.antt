@@ -1,0 +1,4 @@
+-- Module 2, arctangent: the angle that the scope builds from Taylor sums, what is promised, and the steps that settle the bits.
+pub mod Angle
+pub mod Promise
+pub mod Steps

@@ -1,0 +1,30 @@
+-- Module 2: what is promised of sine and cosine beside their bits. Definitions only.
+use mathlib.Core.Path.{_≡_}
+use mathlib.Core.Bool.{not, cond}
+use lib.Dec.{T}
+use lib.Ieee.{Float, nan, le}
+use lib.Ieee.Scale.{finite}
+use Rattle.ieee754.specs.Binary64.{twoTo10}
+use Rattle.ieee754.specs.Sign.{absolute, signBit}
+use Rattle.elementary_fixed_point.specs.Fraction.{Fraction, negated, Near}
+use Rattle.elementary_sincos.specs.Taylor.{sineSum, cosineSum}
+use Rattle.elementary_sincos.specs.Reduction.{restNum, restDen}
+
+-- up to which sine and cosine are near the Taylor sums
+abbrev pub limit : Float
+limit = twoTo10
+
+-- the Taylor sums at θ's exact remainder; sine's with the sign of θ
+abbrev pub taylorSine : Float → Fraction
+taylorSine θ = cond (signBit θ) (negated (sineSum (restNum θ) (restDen θ))) (sineSum (restNum θ) (restDen θ))
+
+abbrev pub taylorCosine : Float → Fraction
+taylorCosine θ = cosineSum (restNum θ) (restDen θ)
+
+pub record SinePromise (θ v : Float) : Type 0 where
+  pub undefined : T (not (finite θ)) → v ≡ nan
+  pub near : T (le (absolute θ) limit) → Near 40 v (taylorSine θ)
+
+pub record CosinePromise (θ v : Float) : Type 0 where
+  pub undefined : T (not (finite θ)) → v ≡ nan
+  pub near : T (le (absolute θ) limit) → Near 40 v (taylorCosine θ)

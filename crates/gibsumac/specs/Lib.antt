@@ -1,2 +1,0 @@
--- The C interface.
-pub mod Calls

@@ -1,5 +1,0 @@
--- Module 3, the covariance of a tracker of one frequency, as two halves.
-pub mod Joined
-pub mod Steady
-pub mod HalfPrediction
-pub mod HalfCorrection

@@ -1,0 +1,3 @@
+-- The pass text as a stream.
+pub mod Stream
+pub mod Code

@@ -1,5 +1,0 @@
-// A pass text line by line (the scope, "The pass text and its list"): the line of a block, any line by what is due, and the lines of a chunk of the
-// text. What they mean is in pass_setup.
-pub mod block;
-pub mod judge;
-pub mod run;

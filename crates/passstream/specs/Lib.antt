@@ -1,2 +1,0 @@
--- The pass text as a stream.
-pub mod Stream

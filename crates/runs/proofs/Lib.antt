@@ -1,2 +1,0 @@
--- Two machines in lockstep, and what a list of calls keeps.
-pub mod Lockstep

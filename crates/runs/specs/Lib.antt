@@ -1,2 +1,0 @@
--- Lists of calls of any machine.
-pub mod Runs

@@ -1,3 +1,0 @@
--- A one-frequency tracker with its covariance in two halves.
-pub mod Whole
-pub mod Parts

@@ -1,0 +1,2 @@
+-- What no claim cites yet.
+pub mod Traces

@@ -1,0 +1,3 @@
+-- Lists of calls of any machine.
+pub mod Runs
+pub mod Code

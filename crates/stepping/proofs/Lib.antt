@@ -1,3 +1,0 @@
--- What the proofs of the crate's functions cite, on plain values.
-pub mod SecondSteps
-pub mod EitherUpdate

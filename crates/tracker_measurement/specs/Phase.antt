@@ -1,0 +1,22 @@
+-- The range of phases of each modulation, and the wrap into it (the scope, module 3; the source's `limit` and `half_limit`). Squaring BPSK leaves a
+-- carrier; QPSK looks the same after a quarter turn. Definitions only.
+use lib.Ieee.{Float, binary64, add, sub}
+use Rattle.ieee754.specs.Binary64.{twoPi, pi, halfPi, quarterPi}
+use Rattle.ieee754.specs.Remainder.{remEuclid}
+use Rattle.tracker_measurement.specs.declared.modulation.Modulation.{Modulation}
+use Rattle.tracker_measurement.specs.declared.modulation.Modulation.the-variants.{Carrier, Bpsk, Qpsk}
+
+-- the range's length
+abbrev pub limit : Modulation → Float
+limit Carrier = twoPi
+limit Bpsk = twoPi
+limit Qpsk = halfPi
+
+abbrev pub halfLimit : Modulation → Float
+halfLimit Carrier = pi
+halfLimit Bpsk = pi
+halfLimit Qpsk = quarterPi
+
+-- the angle moved by whole ranges into the one around 0; a tiny negative remainder can round up to plus half the range
+unfoldable pub wrapped : Modulation → Float → Float
+wrapped m angle = sub binary64 (remEuclid binary64 (add binary64 angle (halfLimit m)) (limit m)) (halfLimit m)

@@ -1,0 +1,2 @@
+-- A one-frequency tracker with its covariance in two halves.
+pub mod Code
