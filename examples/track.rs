@@ -41,24 +41,65 @@ struct Answer {
 
 #[repr(C)]
 #[derive(Clone, Copy)]
+struct Setup {
+    rate: u64,
+    factor: u64,
+    bank: bool,
+    two: bool,
+}
+
+#[repr(C)]
+#[derive(Clone, Copy)]
+struct Reading {
+    phase: f64,
+    frequency: f64,
+    snr: f64,
+    electrons: f64,
+}
+
+#[repr(C)]
+#[derive(Clone, Copy)]
+struct Tuning {
+    figures: [f64; 6],
+    switches: [bool; 2],
+}
+
+#[repr(C)]
+#[derive(Clone, Copy)]
+struct PowerSums {
+    pushed: usize,
+    sums: [f64; 2],
+}
+
+#[repr(C)]
+#[derive(Clone, Copy)]
 struct Tracker {
+    modulation: u64,
+    tuning: Tuning,
     x: [f64; 6],
     p: [f64; 36],
-    numbers: [f64; 10],
-    pr_pushed: usize,
+    envelope_ema: f64,
+    power: PowerSums,
+    lock_metric: f64,
+    is_locked: bool,
     convergence_guard: usize,
-    modulation: u64,
-    marks: [bool; 3],
 }
 
 #[repr(C)]
 #[derive(Clone, Copy)]
 struct Channel {
+    setup: Setup,
+    idle: bool,
+    carriers: Carriers,
     trackers: [Tracker; 4],
-    wholes: [u64; 5],
-    numbers: [f64; 8],
+    active_idx: u64,
+    in_fade: bool,
+    fade_counts: [u64; 2],
+    terminated_in_fade: bool,
+    ever_locked: bool,
     last_snr: f32,
-    marks: [bool; 7],
+    is_locked: bool,
+    reading: Reading,
 }
 
 #[repr(C)]

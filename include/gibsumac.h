@@ -66,23 +66,54 @@ typedef struct {
     double phase, frequency, snr, electrons, metric;
 } gibsumac_answer;
 
-/* A tracker. x: phase, frequency, chirp in radians, then the same for the second channel; p: their covariance by rows. */
+/* What opening settles of a channel: sample rate in Hz, decimation factor, and whether it has a bank and two frequencies. */
 typedef struct {
-    double x[6], p[36];
-    double q_phase, q_freq, q_chirp, r_meas, ts;
-    double lock_metric, envelope_ema, pr_sum_abs_i, pr_sum_q_sq, frequency_ratio;
-    size_t pr_pushed, convergence_guard;
+    uint64_t rate, factor;
+    bool bank, two;
+} gibsumac_setup;
+
+/* What the latest blocks showed of the signal, as in an answer. */
+typedef struct {
+    double phase, frequency, snr, electrons;
+} gibsumac_reading;
+
+/* What opening settles of a tracker: four noise figures, its own interval in seconds, the ratio of the second carrier to the first, two switches. */
+typedef struct {
+    double q_phase, q_freq, q_chirp, r_meas, ts, frequency_ratio;
+    bool adaptive_ekf, dual_lock;
+} gibsumac_tuning;
+
+/* Where a tracker is in its window memory, and the sums over the pairs there. */
+typedef struct {
+    size_t pushed;
+    double sum_abs_i, sum_q_sq;
+} gibsumac_power_sums;
+
+/* A tracker. x: phase in rad, frequency in rad/s, chirp in rad/s^2, then the same for the second channel; p: their covariance by rows. */
+typedef struct {
     uint64_t modulation;
-    bool is_locked, adaptive_ekf, dual_lock;
+    gibsumac_tuning tuning;
+    double x[6], p[36];
+    double envelope_ema;
+    gibsumac_power_sums power;
+    double lock_metric;
+    bool is_locked;
+    size_t convergence_guard;
 } gibsumac_tracker;
 
+/* A channel: its own tracker, pll, and the three of its bank with the bank's marks and counts. active_idx is 3 for none. */
 typedef struct {
+    gibsumac_setup setup;
+    bool idle;
+    gibsumac_carriers carriers;
     gibsumac_tracker pll, t0, t1, t2;
-    uint64_t rate, factor, active_idx, fade_counter, max_fade_steps;
-    double nominal, target, target2, frequency2;
-    double phase, frequency, snr, electrons;
+    uint64_t active_idx;
+    bool in_fade;
+    uint64_t fade_counter, max_fade_steps;
+    bool terminated_in_fade, ever_locked;
     float last_snr;
-    bool bank, two, idle, in_fade, terminated_in_fade, ever_locked, is_locked;
+    bool is_locked;
+    gibsumac_reading reading;
 } gibsumac_channel;
 
 /* What open and assign return: the refusal number, 0 where the call is accepted, and the channel. */

@@ -44,55 +44,76 @@ pub struct PortAnswer {
 
 #[repr(C)]
 #[derive(Clone, Copy)]
-pub struct PortTracker {
-    x: [f64; 6],
-    p: [f64; 36],
+pub struct PortSetup {
+    rate: u64,
+    factor: u64,
+    bank: bool,
+    two: bool,
+}
+
+#[repr(C)]
+#[derive(Clone, Copy)]
+pub struct PortReading {
+    phase: f64,
+    frequency: f64,
+    snr: f64,
+    electrons: f64,
+}
+
+#[repr(C)]
+#[derive(Clone, Copy)]
+pub struct PortTuning {
     q_phase: f64,
     q_freq: f64,
     q_chirp: f64,
     r_meas: f64,
     ts: f64,
-    lock_metric: f64,
-    envelope_ema: f64,
-    pr_sum_abs_i: f64,
-    pr_sum_q_sq: f64,
     frequency_ratio: f64,
-    pr_pushed: usize,
-    convergence_guard: usize,
-    modulation: u64,
-    is_locked: bool,
     adaptive_ekf: bool,
     dual_lock: bool,
 }
 
 #[repr(C)]
 #[derive(Clone, Copy)]
+pub struct PortPowerSums {
+    pushed: usize,
+    sum_abs_i: f64,
+    sum_q_sq: f64,
+}
+
+#[repr(C)]
+#[derive(Clone, Copy)]
+pub struct PortTracker {
+    modulation: u64,
+    tuning: PortTuning,
+    x: [f64; 6],
+    p: [f64; 36],
+    envelope_ema: f64,
+    power: PortPowerSums,
+    lock_metric: f64,
+    is_locked: bool,
+    convergence_guard: usize,
+}
+
+#[repr(C)]
+#[derive(Clone, Copy)]
 pub struct PortChannel {
+    setup: PortSetup,
+    idle: bool,
+    carriers: PortCarriers,
     pll: PortTracker,
     t0: PortTracker,
     t1: PortTracker,
     t2: PortTracker,
-    rate: u64,
-    factor: u64,
     active_idx: u64,
+    in_fade: bool,
     fade_counter: u64,
     max_fade_steps: u64,
-    nominal: f64,
-    target: f64,
-    target2: f64,
-    frequency2: f64,
-    phase: f64,
-    frequency: f64,
-    snr: f64,
-    electrons: f64,
-    last_snr: f32,
-    bank: bool,
-    two: bool,
-    idle: bool,
-    in_fade: bool,
     terminated_in_fade: bool,
     ever_locked: bool,
+    last_snr: f32,
     is_locked: bool,
+    reading: PortReading,
 }
 
 #[repr(C)]
@@ -155,49 +176,50 @@ fn pushed(t: &Tracker) -> usize {
 impl PortTracker {
     fn of(t: &Tracker) -> PortTracker {
         PortTracker {
+            modulation: t.modulation as u64,
+            tuning: PortTuning {
+                q_phase: t.q_phase,
+                q_freq: t.q_freq,
+                q_chirp: t.q_chirp,
+                r_meas: t.r_meas,
+                ts: t.ts,
+                frequency_ratio: t.ratio,
+                adaptive_ekf: t.adaptive != 0,
+                dual_lock: t.dual_lock != 0,
+            },
             x: t.x,
             p: t.p,
-            q_phase: t.q_phase,
-            q_freq: t.q_freq,
-            q_chirp: t.q_chirp,
-            r_meas: t.r_meas,
-            ts: t.ts,
-            lock_metric: t.metric,
             envelope_ema: t.envelope,
-            pr_sum_abs_i: t.sum_abs_i,
-            pr_sum_q_sq: t.sum_q_sq,
-            frequency_ratio: t.ratio,
-            pr_pushed: pushed(t),
-            convergence_guard: t.guard as usize,
-            modulation: t.modulation as u64,
+            power: PortPowerSums { pushed: pushed(t), sum_abs_i: t.sum_abs_i, sum_q_sq: t.sum_q_sq },
+            lock_metric: t.metric,
             is_locked: t.locked != 0,
-            adaptive_ekf: t.adaptive != 0,
-            dual_lock: t.dual_lock != 0,
+            convergence_guard: t.guard as usize,
         }
     }
 
     /// What differs from a tracker of the reference.
     fn unlike(&self, t: &Tracker) -> Option<&'static str> {
         let o = PortTracker::of(t);
+        let (k, l) = (&self.tuning, &o.tuning);
         let floats = [
-            (self.q_phase, o.q_phase),
-            (self.q_freq, o.q_freq),
-            (self.q_chirp, o.q_chirp),
-            (self.r_meas, o.r_meas),
-            (self.ts, o.ts),
-            (self.lock_metric, o.lock_metric),
+            (k.q_phase, l.q_phase),
+            (k.q_freq, l.q_freq),
+            (k.q_chirp, l.q_chirp),
+            (k.r_meas, l.r_meas),
+            (k.ts, l.ts),
+            (k.frequency_ratio, l.frequency_ratio),
             (self.envelope_ema, o.envelope_ema),
-            (self.pr_sum_abs_i, o.pr_sum_abs_i),
-            (self.pr_sum_q_sq, o.pr_sum_q_sq),
-            (self.frequency_ratio, o.frequency_ratio),
+            (self.power.sum_abs_i, o.power.sum_abs_i),
+            (self.power.sum_q_sq, o.power.sum_q_sq),
+            (self.lock_metric, o.lock_metric),
         ];
         let wholes = [
-            (self.pr_pushed as u64, o.pr_pushed as u64),
-            (self.convergence_guard as u64, o.convergence_guard as u64),
             (self.modulation, o.modulation),
+            (k.adaptive_ekf as u64, l.adaptive_ekf as u64),
+            (k.dual_lock as u64, l.dual_lock as u64),
+            (self.power.pushed as u64, o.power.pushed as u64),
             (self.is_locked as u64, o.is_locked as u64),
-            (self.adaptive_ekf as u64, o.adaptive_ekf as u64),
-            (self.dual_lock as u64, o.dual_lock as u64),
+            (self.convergence_guard as u64, o.convergence_guard as u64),
         ];
         if !all_same(&self.x, &o.x) {
             Some("states")
@@ -242,31 +264,27 @@ impl Port {
         let t = |i: usize| PortTracker::of(&b.trackers[i]);
         Port {
             channel: PortChannel {
+                setup: PortSetup { rate: b.rate, factor: b.factor, bank: b.bank != 0, two: b.two != 0 },
+                idle: b.assigned == 0,
+                carriers: PortCarriers {
+                    nominal: b.nominal,
+                    target: b.target,
+                    target2: b.target2,
+                    frequency2: b.frequency2,
+                },
                 pll: PortTracker::of(&b.pll),
                 t0: t(0),
                 t1: t(1),
                 t2: t(2),
-                rate: b.rate,
-                factor: b.factor,
                 active_idx: b.tracker as u64,
+                in_fade: b.in_fade != 0,
                 fade_counter: b.fade_count,
                 max_fade_steps: b.fade_steps,
-                nominal: b.nominal,
-                target: b.target,
-                target2: b.target2,
-                frequency2: b.frequency2,
-                phase: b.phase,
-                frequency: b.frequency,
-                snr: b.snr,
-                electrons: b.electrons,
-                last_snr: b.last_snr,
-                bank: b.bank != 0,
-                two: b.two != 0,
-                idle: b.assigned == 0,
-                in_fade: b.in_fade != 0,
                 terminated_in_fade: b.ended != 0,
                 ever_locked: b.ever_locked != 0,
+                last_snr: b.last_snr,
                 is_locked: b.locked != 0,
+                reading: PortReading { phase: b.phase, frequency: b.frequency, snr: b.snr, electrons: b.electrons },
             },
         }
     }
@@ -321,20 +339,20 @@ impl Port {
         let c = &self.channel;
         let o = Port::build(b).channel;
         let floats = [
-            (c.nominal, o.nominal),
-            (c.target, o.target),
-            (c.target2, o.target2),
-            (c.frequency2, o.frequency2),
-            (c.phase, o.phase),
-            (c.frequency, o.frequency),
-            (c.snr, o.snr),
-            (c.electrons, o.electrons),
+            (c.carriers.nominal, o.carriers.nominal),
+            (c.carriers.target, o.carriers.target),
+            (c.carriers.target2, o.carriers.target2),
+            (c.carriers.frequency2, o.carriers.frequency2),
+            (c.reading.phase, o.reading.phase),
+            (c.reading.frequency, o.reading.frequency),
+            (c.reading.snr, o.reading.snr),
+            (c.reading.electrons, o.reading.electrons),
         ];
         let wholes = [
-            (c.rate, o.rate),
-            (c.factor, o.factor),
-            (c.bank as u64, o.bank as u64),
-            (c.two as u64, o.two as u64),
+            (c.setup.rate, o.setup.rate),
+            (c.setup.factor, o.setup.factor),
+            (c.setup.bank as u64, o.setup.bank as u64),
+            (c.setup.two as u64, o.setup.two as u64),
             (c.idle as u64, o.idle as u64),
             (c.ever_locked as u64, o.ever_locked as u64),
             (c.is_locked as u64, o.is_locked as u64),
@@ -357,7 +375,7 @@ impl Port {
         } else if wholes.iter().any(|(a, b)| a != b) {
             Some("a mark of the channel")
         } else {
-            c.pll.unlike(&b.pll).or_else(|| if c.bank { bank() } else { None })
+            c.pll.unlike(&b.pll).or_else(|| if c.setup.bank { bank() } else { None })
         }
     }
 }

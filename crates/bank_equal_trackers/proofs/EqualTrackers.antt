@@ -9,8 +9,11 @@ use lib.Ieee.{Float, nan}
 use Rattle.tracker_measurement.specs.declared.modulation.Modulation.{Modulation}
 use Rattle.tracker_measurement.specs.declared.modulation.Modulation.the-variants.{Carrier, Bpsk, Qpsk}
 use Rattle.tracker_measurement.specs.Numbers.{modulationNumber}
+use Rattle.tracker_power_ratio.specs.declared.PowerSums.{PowerSums}
+use Rattle.tracker.specs.declared.state.Tuning.{Tuning}
 use Rattle.tracker.specs.declared.state.CarrierPllEkf.{CarrierPllEkf}
 use Rattle.tracker.specs.declared.state.Tracked.{Tracked}
+use Rattle.tracker.specs.State.{trackerOf}
 use Rattle.bank_equal_trackers.specs.Code.Alike.{floatsOf, countsOf, switchesOf}
 
 pub same-marks : (a b : Bool) → a ≡ true → b ≡ true → a ≡ b
@@ -40,25 +43,19 @@ same-triple {b = b} {c = c} {d = d} {e = e} i j k = ap (λ (z : Bool). (z, b, c)
 -- a tracker of given parts
 abbrev built : List Float → List Float → ℕ × ℕ → Bool × Bool × Bool → Modulation → CarrierPllEkf
 built x f c s m =
+    let k : Tuning =
     record {
-      x = x;
       «q_phase» = getD f 0 nan;
       «q_freq» = getD f 1 nan;
       «q_chirp» = getD f 2 nan;
       «r_meas» = getD f 3 nan;
       ts = getD f 4 nan;
-      «lock_metric» = getD f 5 nan;
-      «is_locked» = s .0;
-      modulation = m;
-      «envelope_ema» = getD f 6 nan;
+      «frequency_ratio» = getD f 5 nan;
       «adaptive_ekf» = s .1;
       «dual_lock» = s .2;
-      «pr_pushed» = c .0;
-      «pr_sum_abs_i» = getD f 7 nan;
-      «pr_sum_q_sq» = getD f 8 nan;
-      «convergence_guard» = c .1;
-      «frequency_ratio» = getD f 9 nan;
-    }
+    } in
+    let power : PowerSums = record { pushed = c .0; «sum_abs_i» = getD f 7 nan; «sum_q_sq» = getD f 8 nan } in
+    trackerOf m k x (getD f 6 nan) power (getD f 9 nan) (s .0) (c .1)
 
 pub same-parts : (t u : CarrierPllEkf) → t .x ≡ u .x → floatsOf t ≡ floatsOf u → countsOf t ≡ countsOf u → switchesOf t ≡ switchesOf u → t .modulation ≡ u .modulation → t ≡ u
 same-parts t u ex ef ec es em =

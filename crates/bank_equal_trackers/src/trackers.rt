@@ -32,28 +32,28 @@ fn same_figures(t: CarrierPllEkf, u: CarrierPllEkf) -> bool
     ensures { λ r. ⌜ (r ≡ true → floatsOf t ≡ floatsOf u) ⌝ }
 {
     let f = [
-        t.q_phase,
-        t.q_freq,
-        t.q_chirp,
-        t.r_meas,
-        t.ts,
-        t.lock_metric,
+        t.tuning.q_phase,
+        t.tuning.q_freq,
+        t.tuning.q_chirp,
+        t.tuning.r_meas,
+        t.tuning.ts,
+        t.tuning.frequency_ratio,
         t.envelope_ema,
-        t.pr_sum_abs_i,
-        t.pr_sum_q_sq,
-        t.frequency_ratio,
+        t.power.sum_abs_i,
+        t.power.sum_q_sq,
+        t.lock_metric,
     ];
     let g = [
-        u.q_phase,
-        u.q_freq,
-        u.q_chirp,
-        u.r_meas,
-        u.ts,
-        u.lock_metric,
+        u.tuning.q_phase,
+        u.tuning.q_freq,
+        u.tuning.q_chirp,
+        u.tuning.r_meas,
+        u.tuning.ts,
+        u.tuning.frequency_ratio,
         u.envelope_ema,
-        u.pr_sum_abs_i,
-        u.pr_sum_q_sq,
-        u.frequency_ratio,
+        u.power.sum_abs_i,
+        u.power.sum_q_sq,
+        u.lock_metric,
     ];
     same_stretches(&f, 0, &g, 0, 10)
 }
@@ -62,15 +62,15 @@ fn same_figures(t: CarrierPllEkf, u: CarrierPllEkf) -> bool
 fn same_counts(t: CarrierPllEkf, u: CarrierPllEkf) -> bool
     ensures { λ r. ⌜ (r ≡ true → countsOf t ≡ countsOf u) ⌝ }
 {
-    (t.pr_pushed == u.pr_pushed) & (t.convergence_guard == u.convergence_guard)
+    (t.power.pushed == u.power.pushed) & (t.convergence_guard == u.convergence_guard)
 }
 
 fn same_switches(t: CarrierPllEkf, u: CarrierPllEkf) -> bool
     ensures { λ r. ⌜ (r ≡ true → switchesOf t ≡ switchesOf u) ⌝ }
 {
     let a = same_bool(t.is_locked, u.is_locked);
-    let b = same_bool(t.adaptive_ekf, u.adaptive_ekf);
-    let c = same_bool(t.dual_lock, u.dual_lock);
+    let b = same_bool(t.tuning.adaptive_ekf, u.tuning.adaptive_ekf);
+    let c = same_bool(t.tuning.dual_lock, u.tuning.dual_lock);
     a & (b & c)
 }
 

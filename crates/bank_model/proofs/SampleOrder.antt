@@ -2,7 +2,7 @@
 -- the same window memory, since a tracker reads and writes its own stretch alone, and neither the fade nor the tracker in use changes between. Assumes nothing.
 use Prim.Native.Nat.{ℕ, _*_, _<_}
 use mathlib.Core.Path.{_≡_, refl, sym, ap, _∙_}
-use mathlib.Core.Bool.{Bool, true, false}
+use mathlib.Core.Bool.{Bool, true, false, cond}
 use mathlib.Core.List.{List, [], _∷_}
 use native.Mathlib.Omega.{arith}
 use lib.ListN.{length}
@@ -12,10 +12,10 @@ use Rattle.sequences.specs.Folds.{fold}
 use Rattle.sequences.specs.Stretches.{within}
 use Rattle.sequences.proofs.FoldLaws.{fold-keeps}
 use Rattle.tracker.specs.declared.state.Tracked.{Tracked}
-use Rattle.tracker_model.specs.Following.{TrackerWindow, Sample, follow, followDual, followed, followedDual, overLists}
+use Rattle.tracker_model.specs.Following.{TrackerWindow, Sample, follow, followDual, overLists}
 use Rattle.bank_model.specs.declared.state.EkfTrackingBank.{EkfTrackingBank}
 use Rattle.bank_model.specs.Values.{withTrackers}
-use Rattle.bank_model.specs.Following.{Lists, BankWindows, fades, onStretch, inTurn, sampleBySample, bankFollowed}
+use Rattle.bank_model.specs.Following.{Lists, BankWindows, fades, onStretch, inTurn, through, bankFollowed}
 use Rattle.bank_model.specs.Code.TrackerByTracker.{trackerByTracker}
 use Rattle.tracker_model.proofs.WindowLength.{follow-length, follow-dual-length}
 use Rattle.bank_model.proofs.FourStretches.{part, put, laid, length-part, length-laid, part-1, part-2, part-3, ahead-2, ahead-3, laid-again, laid-same}
@@ -138,8 +138,9 @@ module _ {S : Type 0} (act : Bool → TrackerWindow → S → TrackerWindow) (ke
       ∙ two-turns f (λ fade h. fold (act fade) h ss) (λ fade h. keeps fade h s) (fold-length ss) b w lw
 
 by-lists : (two : Bool) (dt : Float) (first second : List Float) (b : EkfTrackingBank) (w : List Float) → length w ≡ 8192
-    → sampleBySample two dt first second (b, w) ≡ inTurn (λ (fade : Bool) (h : TrackerWindow). overLists two dt fade first second h) (b, w)
-unfolding sampleBySample overLists followed followedDual
+    → cond two (fold (through (followDual dt)) (b, w) (zip (pairs first) (pairs second))) (fold (through (follow dt)) (b, w) (pairs first))
+    ≡ inTurn (λ (fade : Bool) (h : TrackerWindow). overLists two dt fade first second h) (b, w)
+unfolding overLists
 by-lists false dt first second b w lw = in-both-orders (follow dt) (follow-length dt) (pairs first) b w lw
 by-lists true dt first second b w lw = in-both-orders (followDual dt) (follow-dual-length dt) (zip (pairs first) (pairs second)) b w lw
 

@@ -32,29 +32,15 @@ weight t = cond (t .«is_locked») (t .«lock_metric») zero
 unfoldable pub jointWeight : CarrierPllEkf → CarrierPllEkf → Float
 jointWeight t u = convert binary32 (times (weight t) (weight u))
 
--- 0
-abbrev pub zero32 : Float
-zero32 = float32.zero
-
--- 1e-5
-abbrev pub leastWeight : Float
-leastWeight = float32.tenToMinus5
-
--- x, and 0 for a NaN
-unfoldable pub orZero : Float → Float
-orZero x = cond (isNan x) zero32 x
-
 -- the mean of the differences' sizes with the weights a, b, c; 0 where the weights come to less than 1e-5 or to no number, or the mean to none
 unfoldable pub weightedMean : Float → Float → Float → FrequencyDiffs → Float
 weightedMean a b c d =
     let sum = add binary32 (add binary32 a b) c in
     let total =
     add binary32 (add binary32 (mul binary32 a (absolute (d .d01))) (mul binary32 b (absolute (d .d12)))) (mul binary32 c (absolute (d .d20))) in
-    cond (lt sum leastWeight || isNan sum) zero32 (orZero (div binary32 total sum))
+    let mean = div binary32 total sum in
+    cond ((lt sum float32.tenToMinus5 || isNan sum) || isNan mean) float32.zero mean
 
 unfoldable pub discrepancy : EkfTrackingBank → Float
 discrepancy b =
-    let t = b .t0 .ekf in
-    let u = b .t1 .ekf in
-    let v = b .t2 .ekf in
-    weightedMean (jointWeight t u) (jointWeight u v) (jointWeight v t) (frequencyDiffs b)
+    weightedMean (jointWeight (b .t0 .ekf) (b .t1 .ekf)) (jointWeight (b .t1 .ekf) (b .t2 .ekf)) (jointWeight (b .t2 .ekf) (b .t0 .ekf)) (frequencyDiffs b)

@@ -1,14 +1,14 @@
 -- A bank over the samples of a block (the scope, module 7; `process_block_with_center`): each sample goes through tracker 0, 1 and 2 before the next.
 -- Tracker i has the stretch 2,048 × (i + 1) of the window memory; the first stretch is that of `pll_tracker`. Definitions only.
 use Prim.Native.Nat.{ℕ, _*_}
-use mathlib.Core.Bool.{Bool, true, false, _&&_}
+use mathlib.Core.Bool.{Bool, cond, _&&_}
 use mathlib.Core.List.{List}
 use lib.Dec.{eqb}
 use lib.Ieee.{Float}
 use Rattle.sequences.specs.Pairs.{pairs, zip}
 use Rattle.sequences.specs.Folds.{fold}
 use Rattle.sequences.specs.Stretches.{within}
-use Rattle.tracker_model.specs.Following.{TrackerWindow, Sample, follow, followDual, overLists}
+use Rattle.tracker_model.specs.Following.{TrackerWindow, follow, followDual, overLists}
 use Rattle.bank_model.specs.declared.state.EkfTrackingBank.{EkfTrackingBank}
 use Rattle.bank_model.specs.Values.{withTrackers}
 
@@ -39,17 +39,10 @@ inTurn f k =
     let h2 = within (2048 * 3) 2048 (f (fades b 2)) (b .t2, h1 .1) in
     (withTrackers b (h0 .0) (h1 .0) (h2 .0) (b .«terminated_in_fade»), h2 .1)
 
--- one sample through the bank, and a sample of each of two frequencies
-abbrev pub through : Float → BankWindows → Sample → BankWindows
-through dt k s = inTurn (λ (fade : Bool) (h : TrackerWindow). follow dt fade h s) k
-
-abbrev pub throughDual : Float → BankWindows → Sample × Sample → BankWindows
-throughDual dt k s = inTurn (λ (fade : Bool) (h : TrackerWindow). followDual dt fade h s) k
-
--- by whether there are two frequencies
-unfoldable pub sampleBySample : Bool → Float → List Float → List Float → BankWindows → BankWindows
-sampleBySample false dt first second k = fold (through dt) k (pairs first)
-sampleBySample true dt first second k = fold (throughDual dt) k (zip (pairs first) (pairs second))
+-- one sample through the bank, where f takes a tracker over it; with two frequencies it is a sample of each
+abbrev pub through : {S : Type 0} → (Bool → TrackerWindow → S → TrackerWindow) → BankWindows → S → BankWindows
+through f k s = inTurn (λ (fade : Bool) (h : TrackerWindow). f fade h s) k
 
 unfoldable pub bankFollowed : Float → Lists → BankWindows → BankWindows
-bankFollowed dt l k = sampleBySample (l .two) dt (l .first) (l .second) k
+bankFollowed dt l k =
+    cond (l .two) (fold (through (followDual dt)) k (zip (pairs (l .first)) (pairs (l .second)))) (fold (through (follow dt)) k (pairs (l .first)))

@@ -22,9 +22,6 @@ farApart k t u = lt float.hundredFifty (absolute (minus (hertz k t 1) (hertz k u
 abbrev pub dropped : Tracked → Tracked
 dropped h = record { ekf = withLock (h .ekf) zero false (h .ekf .«convergence_guard»); p = h .p }
 
-unfoldable pub droppedIf : Bool → Tracked → Tracked
-droppedIf d h = cond d (dropped h) h
-
 -- trackers 1 and 2 that are both locked and too far apart
 unfoldable pub disagree : Float → CarrierPllEkf → CarrierPllEkf → Bool
 disagree k u v = (u .«is_locked» && v .«is_locked») && farApart k u v
@@ -45,5 +42,5 @@ pruned k b =
     let u = b .t1 .ekf in
     let v = b .t2 .ekf in
     cond (lt float32.hundredFifty (discrepancy b))
-    (withTrackers b (b .t0) (droppedIf (drops1 k t u v) (b .t1)) (droppedIf (drops2 k t u v) (b .t2)) true)
+    (withTrackers b (b .t0) (cond (drops1 k t u v) (dropped (b .t1)) (b .t1)) (cond (drops2 k t u v) (dropped (b .t2)) (b .t2)) true)
     b

@@ -7,16 +7,7 @@ use Rattle.bank_model.specs.declared.state.EkfTrackingBank.{EkfTrackingB
 -- the bank with the steps of its fade, the trackers t, u and v, the tracker in use, the mark of fading, the count and the mark of having ended
 abbrev pub bankOf : ℕ → Tracked → Tracked → Tracked → ℕ → Bool → ℕ → Bool → EkfTrackingBank
 bankOf steps t u v active fading count ended =
-    record {
-      t0 = t;
-      t1 = u;
-      t2 = v;
-      «active_idx» = active;
-      «in_fade» = fading;
-      «fade_counter» = count;
-      «max_fade_steps» = steps;
-      «terminated_in_fade» = ended;
-    }
+    record { t0 = t; t1 = u; t2 = v; «active_idx» = active; «in_fade» = fading; «fade_counter» = count; «max_fade_steps» = steps; «terminated_in_fade» = ended }
 
 -- with other trackers and another mark of having ended
 abbrev pub withTrackers : EkfTrackingBank → Tracked → Tracked → Tracked → Bool → EkfTrackingBank

@@ -11,20 +11,18 @@ use Rattle.bank_model.specs.declared.state.EkfTrackingBank.{EkfTrackingBank}
 use Rattle.tracker_readings.specs.Readings.{hertz}
 use Rattle.bank_model.specs.Discrepancy.{discrepancy}
 use Rattle.bank_model.specs.Values.{withTrackers}
-use Rattle.bank_model.specs.Pruning.{farApart, dropped, droppedIf, disagree, drops1, drops2, pruned}
+use Rattle.bank_model.specs.Pruning.{farApart, dropped, disagree, drops1, drops2, pruned}
 
 pub far-is : (k : Float) (t u : CarrierPllEkf) {f g a : Float} → f ≡ hertz k t 1 → g ≡ hertz k u 1 → a ≡ absolute (minus f g)
     → lt (ofBits binary64 0x4062_c000_0000_0000) a ≡ farApart k t u
 unfolding farApart
 far-is k t u ef eg ea = rw (ea, ef, eg)
 
-pub drop-yes : (d : Bool) (h : Tracked) → d ≡ true → dropped h ≡ droppedIf d h
-unfolding droppedIf
-drop-yes d h e = ap (λ (z : Bool). droppedIf z h) (sym e)
+pub drop-yes : (d : Bool) (h : Tracked) → d ≡ true → dropped h ≡ cond d (dropped h) h
+drop-yes d h e = sym (cond-yes _ _ e)
 
-pub drop-no : (d : Bool) (h : Tracked) → d ≡ false → h ≡ droppedIf d h
-unfolding droppedIf
-drop-no d h e = ap (λ (z : Bool). droppedIf z h) (sym e)
+pub drop-no : (d : Bool) (h : Tracked) → d ≡ false → h ≡ cond d (dropped h) h
+drop-no d h e = sym (cond-no _ _ e)
 
 -- a test behind one that is true, or false
 both : {x y r : Bool} → x ≡ true → r ≡ y → r ≡ x && y
@@ -71,7 +69,8 @@ module _ (k : Float) (b : EkfTrackingBank) {o : Float} (e : o ≡ discrepancy b)
   abbrev by-test : Bool → EkfTrackingBank
   by-test x =
       cond x
-      (withTrackers b (b .t0) (droppedIf (drops1 k (b .t0 .ekf) (b .t1 .ekf) (b .t2 .ekf)) (b .t1)) (droppedIf (drops2 k (b .t0 .ekf) (b .t1 .ekf) (b .t2 .ekf)) (b .t2)) true)
+      (withTrackers b (b .t0) (cond (drops1 k (b .t0 .ekf) (b .t1 .ekf) (b .t2 .ekf)) (dropped (b .t1)) (b .t1))
+      (cond (drops2 k (b .t0 .ekf) (b .t1 .ekf) (b .t2 .ekf)) (dropped (b .t2)) (b .t2)) true)
       b
 
   beyond : {x : Bool} → lt limit o ≡ x → by-test x ≡ pruned k b
@@ -79,8 +78,8 @@ module _ (k : Float) (b : EkfTrackingBank) {o : Float} (e : o ≡ discrepancy b)
   beyond h = ap by-test (sym h ∙ ap (lt limit) e)
 
   pub pruned-is : {x y : Bool} {u v : Tracked} → lt limit o ≡ true
-      → x ≡ drops1 k (b .t0 .ekf) (b .t1 .ekf) (b .t2 .ekf) → u ≡ droppedIf x (b .t1)
-      → y ≡ drops2 k (b .t0 .ekf) (b .t1 .ekf) (b .t2 .ekf) → v ≡ droppedIf y (b .t2)
+      → x ≡ drops1 k (b .t0 .ekf) (b .t1 .ekf) (b .t2 .ekf) → u ≡ cond x (dropped (b .t1)) (b .t1)
+      → y ≡ drops2 k (b .t0 .ekf) (b .t1 .ekf) (b .t2 .ekf) → v ≡ cond y (dropped (b .t2)) (b .t2)
       → withTrackers b (b .t0) u v true ≡ pruned k b
   pruned-is {u = u} {v = v} h ex eu ey ev =
       let g : withTrackers b (b .t0) u v true ≡ by-test true = rw (eu, ex, ev, ey) in

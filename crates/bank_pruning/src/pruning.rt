@@ -1,6 +1,7 @@
 // Which trackers are dropped where they are too far apart.
 ghost use mathlib.Core.Path.{_≡_};
-ghost use Rattle.bank_model.specs.Pruning.{farApart, droppedIf, disagree, drops1, drops2, pruned};
+ghost use mathlib.Core.Bool.{cond};
+ghost use Rattle.bank_model.specs.Pruning.{farApart, dropped, disagree, drops1, drops2, pruned};
 use crate::discrepancy::compute_tracker_discrepancy;
 use bank_model::state::EkfTrackingBank;
 use ieee754::sign::abs;
@@ -19,7 +20,7 @@ fn far_apart(k: f64, t: CarrierPllEkf, u: CarrierPllEkf) -> bool
 
 // The tracker, unlocked and its metric 0 where it is dropped.
 fn drop_if(is_dropped: bool, h: Tracked) -> Tracked
-    ensures { λ r. ⌜ r ≡ droppedIf «is_dropped» h ⌝ }
+    ensures { λ r. ⌜ r ≡ cond «is_dropped» (dropped h) h ⌝ }
 {
     if is_dropped {
         let mut r = h;

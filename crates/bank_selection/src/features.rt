@@ -1,13 +1,15 @@
 // The figures that describe a bank.
 ghost use mathlib.Core.Path.{_≡_};
-ghost use Rattle.bank_model.specs.Features.{lockMark, trackerFeatures, features};
+ghost use mathlib.Core.Bool.{cond};
+ghost use Rattle.ieee754.specs.Binary32 as float32;
+ghost use Rattle.bank_model.specs.Features.{trackerFeatures, features};
 use bank_model::state::EkfTrackingBank;
 use ieee754::conversion::f64_to_f32;
 use tracker::state::Tracked;
 
 // 1 for a locked tracker, else 0.
 fn lock_mark(is_locked: bool) -> f32
-    ensures { λ r. ⌜ r ≡ lockMark «is_locked» ⌝ }
+    ensures { λ r. ⌜ r ≡ cond «is_locked» float32.one float32.zero ⌝ }
 {
     if is_locked {
         return 1.0;

@@ -9,7 +9,7 @@ ghost use Rattle.ieee754.specs.Remainder.{remEuclid};
 ghost use Rattle.ieee754.specs.Integral.{roundedAway};
 ghost use Rattle.ieee754.specs.Order.{maximum, clamped};
 ghost use Rattle.ieee754.specs.Sign.{absolute};
-ghost use Rattle.ieee754.specs.Hypotenuse.{hypotenuse, hypotenuseAt};
+ghost use Rattle.ieee754.specs.Hypotenuse.{hypotenuse};
 ghost use Rattle.survey.specs.Survey.{surveyOf};
 ghost use Rattle.estimate_correlation.specs.Correlation.{prepared};
 ghost use Rattle.estimate_esprit.specs.Esprit.{estimate};
@@ -80,7 +80,7 @@ pub extern "C" fn measured_hypot(x: f64, y: f64) -> f64
 
 #[no_mangle]
 pub extern "C" fn measured_hypotf(x: f32, y: f32) -> f32
-    ensures { λ r. ⌜ r ≡ hypotenuseAt binary32 x y ⌝ }
+    ensures { λ r. ⌜ r ≡ convert binary32 (hypotenuse x y) ⌝ }
 {
     ieee754_roots::hypotenuse::hypotf(x, y)
 }

@@ -9,6 +9,7 @@ use lib.ListN.{length, take}
 use lib.Seq.{take-all, take-length, length-take-le}
 use borrow.Author.Tests.{leb-true, leb-false}
 use lib.Ieee.{Float, binary32, ofBits, lt}
+use Rattle.sequences.proofs.Choices.{cond-yes, cond-no}
 use Rattle.tracker_measurement.specs.declared.modulation.Modulation.{Modulation}
 use Rattle.tracker.specs.declared.state.Tracked.{Tracked}
 use Rattle.bank_model.specs.Values.{withTrackers}
@@ -16,9 +17,9 @@ use Rattle.estimate_correlation.specs.Correlation.{prepared}
 use Rattle.estimate_esprit.specs.Esprit.{estimate}
 use Rattle.channel_model.specs.declared.Setup.{Setup}
 use Rattle.channel_model.specs.declared.Channel.{Channel}
-use Rattle.channel_model.specs.Values.{withAll}
+use Rattle.channel_model.specs.Values.{withAll, onEach}
 use Rattle.channel_model.specs.Opening.{decimatedRate}
-use Rattle.channel_model.specs.Starting.{starts, chunk, squares, startFrequency, restarted, restartedIf, startedUnlocked, startedAt, startedBy, started}
+use Rattle.channel_model.specs.Starting.{starts, chunk, squares, startFrequency, restarted, startedUnlocked, startedAt, started}
 
 -- ---- whether it starts
 
@@ -83,25 +84,25 @@ frequency-is m k l {count} ec en eb er e =
 
 module _ (hz : Float) (h : Tracked) where
   pub stays : h .ekf .«is_locked» ≡ true → h ≡ startedUnlocked hz h
-  unfolding startedUnlocked restartedIf
-  stays e = ap (λ (b : Bool). restartedIf (not b) hz h) (sym e)
+  unfolding startedUnlocked
+  stays e = sym (cond-yes h (restarted hz h) e)
 
   pub restarts : h .ekf .«is_locked» ≡ false → {r : Tracked} → r ≡ restarted hz h → r ≡ startedUnlocked hz h
-  unfolding startedUnlocked restartedIf
-  restarts e er = er ∙ ap (λ (b : Bool). restartedIf (not b) hz h) (sym e)
+  unfolding startedUnlocked
+  restarts e er = er ∙ sym (cond-no h (restarted hz h) e)
 
 pub started-at : (hz : Float) (c : Channel) {h t u v : Tracked} → h ≡ restarted hz (c .pll) → t ≡ startedUnlocked hz (c .bank .t0)
     → u ≡ startedUnlocked hz (c .bank .t1) → v ≡ startedUnlocked hz (c .bank .t2)
     → withAll c h (withTrackers (c .bank) t u v (c .bank .«terminated_in_fade»)) ≡ startedAt hz c
-unfolding startedAt
+unfolding startedAt onEach
 started-at hz c e e0 e1 e2 = λ i. withAll c (e i) (withTrackers (c .bank) (e0 i) (e1 i) (e2 i) (c .bank .«terminated_in_fade»))
 
 module _ (c : Channel) (l : List Float) {b : Bool} (eb : b ≡ starts c) where
   pub does-start : b ≡ true → {hz : Float} {d : Channel} → hz ≡ startFrequency (c .pll .ekf .modulation) (c .setup) l
       → d ≡ startedAt hz c → d ≡ started c l
-  unfolding started startedBy
-  does-start e eh ed = ed ∙ ap (λ (x : Float). startedAt x c) eh ∙ ap (λ (x : Bool). startedBy x c l) (sym e ∙ eb)
+  unfolding started
+  does-start e eh ed = ed ∙ ap (λ (x : Float). startedAt x c) eh ∙ sym (cond-yes _ c (sym eb ∙ e))
 
   pub does-not : b ≡ false → c ≡ started c l
-  unfolding started startedBy
-  does-not e = ap (λ (x : Bool). startedBy x c l) (sym e ∙ eb)
+  unfolding started
+  does-not e = sym (cond-no (startedAt (startFrequency (c .pll .ekf .modulation) (c .setup) l) c) c (sym eb ∙ e))

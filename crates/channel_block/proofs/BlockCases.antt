@@ -4,7 +4,7 @@ use mathlib.Core.Path.{_≡_, refl, ap, _∙_, sym}
 use mathlib.Core.Bool.{Bool, true, false, cond, not, _&&_, _||_}
 use mathlib.Core.List.{List}
 use native.Mathlib.Omega.{arith}
-use borrow.Author.Tests.{eqb-true}
+use borrow.Author.Tests.{eqb-true, eq-eqb, ne-eqb}
 use lib.Dec.{ltb, eqb}
 use lib.ListN.{length}
 use lib.Ieee.{Float, binary64, ofBits, neg}
@@ -17,8 +17,8 @@ use Rattle.channel_model.specs.declared.Channel.{Channel}
 use Rattle.channel_model.specs.Values.{unlocked}
 use Rattle.channel_model.specs.Assigning.{idle}
 use Rattle.channel_model.specs.Answers.{answerOf, refusedAnswer}
-use Rattle.channel_model.specs.Refusals.{BlockArgs, badLength, badSecond, refusalBy, blockRefusal}
-use Rattle.channel_model.specs.Blocks.{Outcome, untouched, notLocked, withoutSignal, withSignal, byFlag, byStatus, byRefusal, blocked, outcome}
+use Rattle.channel_model.specs.Refusals.{firstCause, BlockArgs, badLength, blockRefusal}
+use Rattle.channel_model.specs.Blocks.{Outcome, untouched, notLocked, withoutSignal, withSignal, byFlag, blockStep, blocked, outcome}
 
 -- ---- a call that is not refused has its window memory whole
 
@@ -26,21 +26,20 @@ past : (t : Bool) (number rest : ℕ) → (number ≡ 0 → ⊥) → cond t numb
 past true number rest h e = absurd (h e)
 past false number rest h e = e
 
-last : (t : Bool) → _≡_ {A = ℕ} (cond t 0 12) 0 → t ≡ true
+last : (t : Bool) → _≡_ {A = ℕ} (cond (not t) 12 0) 0 → t ≡ true
 last true e = refl
 last false e = absurd (omega arith)
 
 pub accepted-size : (two : Bool) (b : BlockArgs) (size : ℕ) → blockRefusal two b size ≡ 0 → size ≡ 8192
-unfolding blockRefusal refusalBy
+unfolding blockRefusal firstCause
 accepted-size two b size e =
     let n = length (b .first) in
-    let m = length (b .second) in
     eqb-true size 8192
     (last (eqb size 8192)
     (past (not (allInRange (b .first) && allInRange (b .second))) 11 _ (λ h. omega arith)
-    (past (badSecond two n m) 10 _ (λ h. omega arith)
+    (past (not (eqb (length (b .second)) (cond two n 0))) 10 _ (λ h. omega arith)
     (past (ltb 1 (b .flag) && ltb 0 n) 9 _ (λ h. omega arith)
-    (past (badLength n || badLength m) 8 _ (λ h. omega arith)
+    (past (badLength (b .first) || badLength (b .second)) 8 _ (λ h. omega arith)
     (past (ltb 4 (b .flag)) 7 _ (λ h. omega arith) e))))))
 
 -- ---- the lists and the window memory stay
@@ -69,7 +68,7 @@ module _ (c : Channel) {n : ℕ} (b : BlockArgs) (w : List Float) where
   unfolding byFlag
   flag-3 e = ap (λ (k : ℕ). byFlag k c b w) (sym e)
 
-pub flag-1 : (c : Channel) {n : ℕ} (first second w : List Float) {o : Outcome} → n ≡ 1
+pub flag-1 : (c : Channel) {n : ℕ} (first second w : List Float) {o : Outcome Channel} → n ≡ 1
     → o ≡ withSignal c (record { flag = 1; first = first; second = second }) w
     → o ≡ byFlag n c (record { flag = n; first = first; second = second }) w
 unfolding byFlag
@@ -87,30 +86,31 @@ flag-4 c (suc (suc (suc (suc n)))) b w f g h k = refl
 
 -- ---- by the refusal number n, and whether the channel is idle
 
-refused-by : (c : Channel) (b : BlockArgs) (w : List Float) (n : ℕ) → (n ≡ 0 → ⊥)
-    → record { answer = refusedAnswer n; channel = c; first = b .first; second = b .second; windows = w } ≡ byRefusal n c b w
-unfolding byRefusal
-refused-by c b w zero h = absurd (h refl)
-refused-by c b w (suc n) h = refl
-
 module _ (c : Channel) (b : BlockArgs) (w : List Float) {n : ℕ} (e : n ≡ blockRefusal (c .setup .two) b (length w)) where
+  abbrev refused : ℕ → Outcome Channel
+  refused k = record { answer = refusedAnswer k; channel = c; first = b .first; second = b .second; windows = w }
+
+  by-number : {x : Bool} → eqb n 0 ≡ x → cond x (blockStep c b w) (refused n) ≡ blocked c b w
+  unfolding blocked
+  by-number ex =
+      ap (λ (y : Bool). cond y (blockStep c b w) (refused n)) (sym ex) ∙ ap (λ (k : ℕ). cond (eqb k 0) (blockStep c b w) (refused k)) e
+
   pub block-refused : {a : Answer} → (n ≡ 0 → ⊥) → a ≡ refusedAnswer n
       → outcome (record { answer = a; channel = c }) (b .first) (b .second) w ≡ blocked c b w
-  unfolding outcome blocked
+  unfolding outcome
   block-refused h ea =
-      (λ i. record { answer = ea i; channel = c; first = b .first; second = b .second; windows = w })
-      ∙ refused-by c b w n h
-      ∙ ap (λ (k : ℕ). byRefusal k c b w) e
+      (λ i. record { answer = ea i; channel = c; first = b .first; second = b .second; windows = w }) ∙ by-number (ne-eqb n 0 h)
 
   module _ (z : n ≡ 0) {t : Bool} (et : t ≡ idle (c .status)) where
-    by-status : byStatus t c b w ≡ blocked c b w
-    unfolding blocked byRefusal
-    by-status = ap (λ (k : Bool). byStatus k c b w) et ∙ ap (λ (k : ℕ). byRefusal k c b w) (sym z ∙ e)
+    abbrev by-idle : Bool → Outcome Channel
+    by-idle x = cond x (untouched (notLocked c (c .pll) float.zero) b w) (byFlag (b .flag) c b w)
+
+    by-status : by-idle t ≡ blocked c b w
+    unfolding blockStep
+    by-status = ap by-idle et ∙ by-number (eq-eqb n 0 z)
 
     pub block-idle : t ≡ true → untouched (notLocked c (c .pll) float.zero) b w ≡ blocked c b w
-    unfolding byStatus
-    block-idle h = ap (λ (k : Bool). byStatus k c b w) (sym h) ∙ by-status
+    block-idle h = ap by-idle (sym h) ∙ by-status
 
-    pub block-assigned : {o : Outcome} → t ≡ false → o ≡ byFlag (b .flag) c b w → o ≡ blocked c b w
-    unfolding byStatus
-    block-assigned h eo = eo ∙ ap (λ (k : Bool). byStatus k c b w) (sym h) ∙ by-status
+    pub block-assigned : {o : Outcome Channel} → t ≡ false → o ≡ byFlag (b .flag) c b w → o ≡ blocked c b w
+    block-assigned h eo = eo ∙ ap by-idle (sym h) ∙ by-status

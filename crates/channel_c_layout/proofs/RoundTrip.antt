@@ -15,8 +15,8 @@ use Rattle.channel_model.specs.Assigning.{idle}
 use Rattle.tracker_measurement.specs.Numbers.{modulationNumber}
 use Rattle.channel_c_layout.specs.declared.plain_channel.PlainChannel.{PlainChannel}
 use Rattle.channel_c_layout.specs.declared.plain_tracker.PlainTracker.{PlainTracker}
-use Rattle.channel_c_layout.specs.Trackers.{plainWith, plainTracker, realTracker, realWith}
-use Rattle.channel_c_layout.specs.Channels.{plainChannelWith, plainChannel, realChannel, statusOf, realChannelWith, Numbered}
+use Rattle.channel_c_layout.specs.Trackers.{plainTracker, realTracker}
+use Rattle.channel_c_layout.specs.Channels.{plainChannel, realChannel, statusOf, Numbered}
 
 modulation-back : (m : Modulation) → modulationOf (modulationNumber m) ≡ m
 unfolding modulationOf
@@ -31,14 +31,12 @@ status-back Assigned = refl
 
 pub tracker-back : (h : Tracked) → realTracker (plainTracker h) ≡ h
 unfolding realTracker plainTracker
-tracker-back h = ap (λ (m : Modulation). realWith (plainTracker h) m) (modulation-back (h .ekf .modulation))
+tracker-back h = rw (modulation-back (h .ekf .modulation))
 
 pub channel-back : (c : Channel) → realChannel (plainChannel c) ≡ c
 unfolding realChannel plainChannel
 channel-back c =
-    λ j.
-    realChannelWith (plainChannel c) (tracker-back (c .pll) j) (tracker-back (c .bank .t0) j) (tracker-back (c .bank .t1) j)
-    (tracker-back (c .bank .t2) j) (status-back (c .status) j)
+    rw (tracker-back (c .pll), tracker-back (c .bank .t0), tracker-back (c .bank .t1), tracker-back (c .bank .t2), status-back (c .status))
 
 -- ---- the other way round
 
@@ -56,14 +54,12 @@ mark-back false = refl
 
 struct-tracker-back : (t : PlainTracker) → t .modulation ≤ 2 → plainTracker (realTracker t) ≡ t
 unfolding realTracker plainTracker
-struct-tracker-back t h = ap (λ (n : ℕ). plainWith (realTracker t) n) (number-back (t .modulation) h)
+struct-tracker-back t h = rw (number-back (t .modulation) h)
 
 pub struct-back : (p : PlainChannel) → Numbered p → plainChannel (realChannel p) ≡ p
 unfolding realChannel plainChannel
 struct-back p h =
-    λ j.
-    plainChannelWith (realChannel p) (struct-tracker-back (p .pll) (h .pll) j) (struct-tracker-back (p .t0) (h .t0) j)
-    (struct-tracker-back (p .t1) (h .t1) j) (struct-tracker-back (p .t2) (h .t2) j) (mark-back (p .idle) j)
+    rw (struct-tracker-back (p .pll) (h .pll), struct-tracker-back (p .t0) (h .t0), struct-tracker-back (p .t1) (h .t1), struct-tracker-back (p .t2) (h .t2), mark-back (p .idle))
 
 number-small : (m : Modulation) → modulationNumber m ≤ 2
 number-small Carrier = omega arith

@@ -5,7 +5,7 @@ use mathlib.Core.List.{List}
 use lib.Ieee.{Float}
 use Rattle.channel_model.specs.declared.Settings.{Settings}
 use Rattle.channel_model.specs.declared.Carriers.{Carriers}
-use Rattle.channel_model.specs.declared.Answer.{Answer}
+use Rattle.channel_model.specs.declared.Channel.{Channel}
 use Rattle.channel_model.specs.declared.Returned.{Returned}
 use Rattle.channel_model.specs.Opening.{opened}
 use Rattle.channel_model.specs.Assigning.{assigned}
@@ -21,22 +21,12 @@ use Rattle.channel_c_layout.specs.Channels.{plainChannel, realChannel}
 unfoldable pub plainReturned : Returned → PlainReturned
 plainReturned r = record { refusal = r .refusal; channel = plainChannel (r .channel) }
 
--- the answer, the channel, and what stands in the two lists and the window memory
-pub record PlainOutcome : Type 0 where
-  pub answer : Answer
-  pub channel : PlainChannel
-  pub first : List Float
-  pub second : List Float
-  pub windows : List Float
-
-unfoldable pub plainOutcome : Outcome → PlainOutcome
-plainOutcome o =
-    record { answer = o .answer; channel = plainChannel (o .channel); first = o .first; second = o .second; windows = o .windows }
+unfoldable pub plainOutcome : Outcome Channel → Outcome PlainChannel
+plainOutcome o = record { answer = o .answer; channel = plainChannel (o .channel); first = o .first; second = o .second; windows = o .windows }
 
 -- what a call returned and what then stood in the three lent memories
-unfoldable pub leftC : PlainBlocked → List Float → List Float → List Float → PlainOutcome
-leftC r first second windows =
-    record { answer = r .answer; channel = r .channel; first = first; second = second; windows = windows }
+unfoldable pub leftC : PlainBlocked → List Float → List Float → List Float → Outcome PlainChannel
+leftC r first second windows = record { answer = r .answer; channel = r .channel; first = first; second = second; windows = windows }
 
 -- gibsumac_open
 unfoldable pub openedC : Settings → PlainReturned
@@ -47,7 +37,7 @@ unfoldable pub assignedC : PlainChannel → Carriers → PlainReturned
 assignedC p a = plainReturned (assigned (realChannel p) a)
 
 -- gibsumac_block, by its flag and its three lent memories at entry
-unfoldable pub blockedC : PlainChannel → ℕ → List Float → List Float → List Float → PlainOutcome
+unfoldable pub blockedC : PlainChannel → ℕ → List Float → List Float → List Float → Outcome PlainChannel
 blockedC p flag first second windows = plainOutcome (blocked (realChannel p) (record { flag = flag; first = first; second = second }) windows)
 
 -- gibsumac_release

@@ -5,64 +5,47 @@ use Rattle.channel_model.specs.declared.Status.{Status}
 use Rattle.channel_model.specs.declared.Status.the-variants.{Idle, Assigned}
 use Rattle.channel_model.specs.declared.Channel.{Channel}
 use Rattle.channel_model.specs.Assigning.{idle}
-use Rattle.tracker.specs.declared.state.Tracked.{Tracked}
 use Rattle.channel_c_layout.specs.declared.plain_channel.PlainChannel.{PlainChannel}
-use Rattle.channel_c_layout.specs.declared.plain_tracker.PlainTracker.{PlainTracker}
 use Rattle.channel_c_layout.specs.Trackers.{plainTracker, realTracker}
-
--- with these trackers and this mark of being Idle
-abbrev pub plainChannelWith : Channel → PlainTracker → PlainTracker → PlainTracker → PlainTracker → Bool → PlainChannel
-plainChannelWith c h t u v isIdle =
-    record {
-      pll = h;
-      t0 = t;
-      t1 = u;
-      t2 = v;
-      rate = c .setup .rate;
-      factor = c .setup .factor;
-      «active_idx» = c .bank .«active_idx»;
-      «fade_counter» = c .bank .«fade_counter»;
-      «max_fade_steps» = c .bank .«max_fade_steps»;
-      nominal = c .carriers .nominal;
-      target = c .carriers .target;
-      target2 = c .carriers .target2;
-      frequency2 = c .carriers .frequency2;
-      phase = c .reading .phase;
-      frequency = c .reading .frequency;
-      snr = c .reading .snr;
-      electrons = c .reading .electrons;
-      «last_snr» = c .«last_snr»;
-      bank = c .setup .bank;
-      two = c .setup .two;
-      idle = isIdle;
-      «in_fade» = c .bank .«in_fade»;
-      «terminated_in_fade» = c .bank .«terminated_in_fade»;
-      «ever_locked» = c .«ever_locked»;
-      «is_locked» = c .«is_locked»;
-    }
 
 unfoldable pub plainChannel : Channel → PlainChannel
 plainChannel c =
-    plainChannelWith c (plainTracker (c .pll)) (plainTracker (c .bank .t0)) (plainTracker (c .bank .t1)) (plainTracker (c .bank .t2))
-    (idle (c .status))
+    let b = c .bank in
+    record {
+      setup = c .setup;
+      idle = idle (c .status);
+      carriers = c .carriers;
+      pll = plainTracker (c .pll);
+      t0 = plainTracker (b .t0);
+      t1 = plainTracker (b .t1);
+      t2 = plainTracker (b .t2);
+      «active_idx» = b .«active_idx»;
+      «in_fade» = b .«in_fade»;
+      «fade_counter» = b .«fade_counter»;
+      «max_fade_steps» = b .«max_fade_steps»;
+      «terminated_in_fade» = b .«terminated_in_fade»;
+      «ever_locked» = c .«ever_locked»;
+      «last_snr» = c .«last_snr»;
+      «is_locked» = c .«is_locked»;
+      reading = c .reading;
+    }
 
 abbrev pub statusOf : Bool → Status
 statusOf true = Idle
 statusOf false = Assigned
 
--- with these trackers and this status
-abbrev pub realChannelWith : PlainChannel → Tracked → Tracked → Tracked → Tracked → Status → Channel
-realChannelWith c h t u v status =
+unfoldable pub realChannel : PlainChannel → Channel
+realChannel c =
     record {
-      setup = record { rate = c .rate; factor = c .factor; bank = c .bank; two = c .two };
-      status = status;
-      carriers = record { nominal = c .nominal; target = c .target; target2 = c .target2; frequency2 = c .frequency2 };
-      pll = h;
+      setup = c .setup;
+      status = statusOf (c .idle);
+      carriers = c .carriers;
+      pll = realTracker (c .pll);
       bank =
           record {
-            t0 = t;
-            t1 = u;
-            t2 = v;
+            t0 = realTracker (c .t0);
+            t1 = realTracker (c .t1);
+            t2 = realTracker (c .t2);
             «active_idx» = c .«active_idx»;
             «in_fade» = c .«in_fade»;
             «fade_counter» = c .«fade_counter»;
@@ -72,12 +55,8 @@ realChannelWith c h t u v status =
       «ever_locked» = c .«ever_locked»;
       «last_snr» = c .«last_snr»;
       «is_locked» = c .«is_locked»;
-      reading = record { phase = c .phase; frequency = c .frequency; snr = c .snr; electrons = c .electrons };
+      reading = c .reading;
     }
-
-unfoldable pub realChannel : PlainChannel → Channel
-realChannel c =
-    realChannelWith c (realTracker (c .pll)) (realTracker (c .t0)) (realTracker (c .t1)) (realTracker (c .t2)) (statusOf (c .idle))
 
 -- the modulation of each tracker is one of the scope's numbers
 pub record Numbered (c : PlainChannel) : Type 0 where

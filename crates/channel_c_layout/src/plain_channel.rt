@@ -12,33 +12,25 @@ use channel_model::Reading;
 use channel_model::Setup;
 use channel_model::Status;
 
+// A channel, with a mark for its status and its bank's fields beside its own.
 #[repr(C)]
 pub struct PlainChannel {
+    pub setup: Setup,
+    pub idle: bool,
+    pub carriers: Carriers,
     pub pll: PlainTracker,
     pub t0: PlainTracker,
     pub t1: PlainTracker,
     pub t2: PlainTracker,
-    pub rate: u64,
-    pub factor: u64,
     pub active_idx: u64,
+    pub in_fade: bool,
     pub fade_counter: u64,
     pub max_fade_steps: u64,
-    pub nominal: f64,
-    pub target: f64,
-    pub target2: f64,
-    pub frequency2: f64,
-    pub phase: f64,
-    pub frequency: f64,
-    pub snr: f64,
-    pub electrons: f64,
-    pub last_snr: f32,
-    pub bank: bool,
-    pub two: bool,
-    pub idle: bool,
-    pub in_fade: bool,
     pub terminated_in_fade: bool,
     pub ever_locked: bool,
+    pub last_snr: f32,
     pub is_locked: bool,
+    pub reading: Reading,
 }
 
 fn is_idle(s: Status) -> bool
@@ -69,35 +61,26 @@ pub fn to_plain_channel(c: Channel) -> PlainChannel
     let t2 = to_plain(b.t2);
     let status = c.status;
     let idle = is_idle(status);
-    let k = c.setup;
-    let a = c.carriers;
-    let r = c.reading;
+    let setup = c.setup;
+    let carriers = c.carriers;
+    let reading = c.reading;
     PlainChannel {
+        setup,
+        idle,
+        carriers,
         pll,
         t0,
         t1,
         t2,
-        rate: k.rate,
-        factor: k.factor,
         active_idx: b.active_idx,
+        in_fade: b.in_fade,
         fade_counter: b.fade_counter,
         max_fade_steps: b.max_fade_steps,
-        nominal: a.nominal,
-        target: a.target,
-        target2: a.target2,
-        frequency2: a.frequency2,
-        phase: r.phase,
-        frequency: r.frequency,
-        snr: r.snr,
-        electrons: r.electrons,
-        last_snr: c.last_snr,
-        bank: k.bank,
-        two: k.two,
-        idle,
-        in_fade: b.in_fade,
         terminated_in_fade: b.terminated_in_fade,
         ever_locked: c.ever_locked,
+        last_snr: c.last_snr,
         is_locked: c.is_locked,
+        reading,
     }
 }
 
@@ -109,18 +92,9 @@ pub fn to_real_channel(c: PlainChannel) -> Channel
     let t1 = to_real(c.t1);
     let t2 = to_real(c.t2);
     let status = status_of(c.idle);
-    let setup = Setup {
-        rate: c.rate,
-        factor: c.factor,
-        bank: c.bank,
-        two: c.two,
-    };
-    let carriers = Carriers {
-        nominal: c.nominal,
-        target: c.target,
-        target2: c.target2,
-        frequency2: c.frequency2,
-    };
+    let setup = c.setup;
+    let carriers = c.carriers;
+    let reading = c.reading;
     let bank = EkfTrackingBank {
         t0,
         t1,
@@ -130,12 +104,6 @@ pub fn to_real_channel(c: PlainChannel) -> Channel
         fade_counter: c.fade_counter,
         max_fade_steps: c.max_fade_steps,
         terminated_in_fade: c.terminated_in_fade,
-    };
-    let reading = Reading {
-        phase: c.phase,
-        frequency: c.frequency,
-        snr: c.snr,
-        electrons: c.electrons,
     };
     Channel {
         setup,

@@ -1,10 +1,13 @@
 -- What no call changes: the setup, the fade's steps, the trackers' settings and, with one frequency, the electron content 0. Assumes nothing.
 use Prim.Native.Nat.{ℕ, zero, suc, _*_}
 use mathlib.Core.Path.{_≡_, refl, sym, _∙_, ap}
-use mathlib.Core.Bool.{Bool, true, false, not}
+use mathlib.Core.Bool.{Bool, true, false}
 use mathlib.Core.List.{List}
+use lib.Dec.{eqb}
+use lib.ListN.{length}
 use lib.Ieee.{Float}
 use Rattle.sequences.specs.Pairs.{pairs, zip}
+use Rattle.sequences.specs.Folds.{fold}
 use Rattle.sequences.specs.Stretches.{stretch, within}
 use Rattle.sequences.proofs.FoldLaws.{fold-keeps}
 use Rattle.ieee754.specs.Binary64 as float
@@ -15,21 +18,25 @@ use Rattle.tracker.proofs.Settings.{settings, Keeps}
 use Rattle.tracker_model.specs.Following.{TrackerWindow, follow, followDual}
 use Rattle.tracker_model.proofs.Settings.{follow-keeps, follow-dual-keeps, over-keeps}
 use Rattle.bank_model.specs.declared.state.EkfTrackingBank.{EkfTrackingBank}
-use Rattle.bank_model.specs.Fade.{finished}
-use Rattle.bank_model.specs.Following.{Lists, BankWindows, onStretch, fades, inTurn, through, throughDual, sampleBySample, bankFollowed}
+use Rattle.bank_model.specs.Fade.{inUse, finished}
+use Rattle.bank_model.specs.Following.{Lists, BankWindows, onStretch, fades, inTurn, through, bankFollowed}
 use Rattle.channel_model.specs.declared.Setup.{Setup}
 use Rattle.channel_model.specs.declared.Carriers.{Carriers}
 use Rattle.channel_model.specs.declared.Channel.{Channel}
-use Rattle.channel_model.specs.Values.{moved, withAll, withSnr, withElectrons, unlocked, allUnlocked}
+use Rattle.channel_model.specs.declared.Reading.{Reading}
+use Rattle.channel_model.specs.Values.{moved, withAll, withSnr, withElectrons, unlocked, onEach}
 use Rattle.channel_model.specs.Opening.{restingBank, idleChannel}
-use Rattle.channel_model.specs.Assigning.{assignRefusal, withCarriers, assignedBy, assigned}
+use Rattle.channel_model.specs.Assigning.{idle, assignRefusal, withCarriers, assigned}
 use Rattle.channel_model.specs.Releasing.{released}
 use Rattle.channel_model.specs.Readout.{electronsOf, readFrom}
-use Rattle.channel_model.specs.Refusals.{BlockArgs}
-use Rattle.channel_model.specs.Starting.{starts, startFrequency, restarted, restartedIf, startedUnlocked, startedAt, startedBy, started}
-use Rattle.channel_model.specs.Tracking.{interval, followedBy, scaleOf, singleShownBy, bankShownBy, bankShown, shownBy}
-use Rattle.channel_model.specs.Blocks.{untouched, notLocked, remembered, bankWithoutSignal, withoutSignal, shownWith, trackedOver, withSignal, byFlag, byStatus, byRefusal, blocked}
-use Rattle.channel_model.specs.Calls.{assign, release, figures, block, Call, ask, lend, asked, lent, called}
+use Rattle.channel_model.specs.Refusals.{BlockArgs, blockRefusal}
+use Rattle.channel_model.specs.Starting.{starts, startFrequency, restarted, startedUnlocked, startedAt, started}
+use Rattle.channel_model.specs.Tracking.{interval, followedBy, scaleOf, singleShown, bankShown, withShown}
+use Rattle.channel_model.specs.Blocks.{Outcome, untouched, notLocked, remembered, bankWithoutSignal, withoutSignal, byFlag, blockStep, blocked}
+use Rattle.channel_model.specs.Code.SignalStep.{shownWith, trackedOver}
+use Rattle.channel_model.specs.Calls.{assign, release, figures, block, Call, ask, lend, called}
+use Rattle.channel_model.proofs.SignalParts.{two-parts}
+use Rattle.channel_independence.proofs.Choices.{either}
 use Rattle.channel_independence.proofs.Frames.{Frames, with-frames}
 
 pub record Constants : Type 0 where
@@ -67,24 +74,25 @@ electrons-one : (two : Bool) (a : Carriers) (t : CarrierPllEkf) (old : Float) �
 unfolding electronsOf
 electrons-one two a t old e = rw e
 
-single-electrons : (x : Bool) (c : Channel) → c .setup .two ≡ false → singleShownBy x c .reading .electrons ≡ float.zero
-unfolding singleShownBy moved readFrom
-single-electrons true c e = electrons-one _ _ _ _ e
-single-electrons false c e = refl
+NoElectrons : Channel → Type 0
+NoElectrons c = c .reading .electrons ≡ float.zero
 
-bank-electrons : (x : Bool) (b : EkfTrackingBank) (c : Channel) → c .setup .two ≡ false → bankShownBy x b c .reading .electrons ≡ float.zero
-unfolding bankShownBy moved readFrom withElectrons
-bank-electrons true b c e = electrons-one _ _ _ _ e
-bank-electrons false b c e = refl
+single-electrons : (c : Channel) → c .setup .two ≡ false → NoElectrons (singleShown c)
+unfolding singleShown moved readFrom NoElectrons
+single-electrons c e = either (λ (r : Reading). r .electrons ≡ float.zero) (c .pll .ekf .«is_locked») (electrons-one _ _ _ _ e) refl
 
-shown-electrons : (x : Bool) (c : Channel) → c .setup .two ≡ false → shownBy x c .reading .electrons ≡ float.zero
-unfolding shownBy bankShown
-shown-electrons true c e = bank-electrons _ (finished (scaleOf c) (c .bank)) c e
-shown-electrons false c e = single-electrons _ c e
+bank-electrons : (b : EkfTrackingBank) (c : Channel) → c .setup .two ≡ false → NoElectrons (bankShown b c)
+unfolding bankShown moved readFrom withElectrons NoElectrons
+bank-electrons b c e =
+    either NoElectrons (inUse b) (either NoElectrons (b .«in_fade») (electrons-one _ _ _ _ e) (electrons-one _ _ _ _ e)) refl
+
+shown-electrons : (c : Channel) → c .setup .two ≡ false → NoElectrons (withShown c)
+unfolding withShown
+shown-electrons c e = either NoElectrons (c .setup .bank) (bank-electrons (finished (scaleOf c) (c .bank)) c e) (single-electrons c e)
 
 with-electrons : (snr : Float) (c : Channel) → c .setup .two ≡ false → shownWith snr c .reading .electrons ≡ float.zero
-unfolding shownWith remembered withSnr
-with-electrons snr c e = shown-electrons (c .setup .bank) c e
+unfolding shownWith remembered withSnr NoElectrons
+with-electrons snr c e = shown-electrons c e
 
 -- ---- a signal block
 
@@ -115,18 +123,19 @@ turn-keeps f keeps b k e =
     }
 
 -- over the samples
-samples-keep : (two : Bool) (dt : Float) (first second : List Float) (b : EkfTrackingBank) (w : List Float) → BankKeeps b (sampleBySample two dt first second (b, w) .0)
-unfolding sampleBySample
-samples-keep false dt first second b w =
-    fold-keeps (λ (k : BankWindows). BankKeeps b (k .0)) (through dt)
-    (λ k s. turn-keeps (λ (fade : Bool) (h : TrackerWindow). follow dt fade h s) (λ fade t h. follow-keeps dt fade t h s) b k) (b, w) (pairs first) (itself b)
-samples-keep true dt first second b w =
-    fold-keeps (λ (k : BankWindows). BankKeeps b (k .0)) (throughDual dt)
-    (λ k s. turn-keeps (λ (fade : Bool) (h : TrackerWindow). followDual dt fade h s) (λ fade t h. follow-dual-keeps dt fade t h s) b k) (b, w) (zip (pairs first) (pairs second)) (itself b)
+samples-keep : {S : Type 0} (f : Bool → TrackerWindow → S → TrackerWindow)
+    → ((fade : Bool) (t : CarrierPllEkf) (h : TrackerWindow) (s : S) → Keeps t (h .0 .ekf) → Keeps t (f fade h s .0 .ekf))
+    → (b : EkfTrackingBank) (w : List Float) (ss : List S) → BankKeeps b (fold (through f) (b, w) ss .0)
+samples-keep f keeps b w ss =
+    fold-keeps (λ (k : BankWindows). BankKeeps b (k .0)) (through f)
+    (λ k s. turn-keeps (λ (fade : Bool) (h : TrackerWindow). f fade h s) (λ fade t h. keeps fade t h s) b k) (b, w) ss (itself b)
 
 bank-keeps : (dt : Float) (l : Lists) (b : EkfTrackingBank) (w : List Float) → BankKeeps b (bankFollowed dt l (b, w) .0)
 unfolding bankFollowed
-bank-keeps dt l b w = samples-keep (l .two) dt (l .first) (l .second) b w
+bank-keeps dt l b w =
+    either (λ (k : BankWindows). BankKeeps b (k .0)) (l .two)
+    (samples-keep (followDual dt) (follow-dual-keeps dt) b w (zip (pairs (l .first)) (pairs (l .second))))
+    (samples-keep (follow dt) (follow-keeps dt) b w (pairs (l .first)))
 
 followed-constants : (x : Bool) (c : Channel) (l : Lists) (w : List Float) → constants (followedBy x c l w .0) ≡ constants c
 unfolding followedBy withAll moved
@@ -170,29 +179,27 @@ unfolding framed
 with-constants snr c h = λ i. framed (with-frames snr c i) ((with-electrons snr c (h .one) ∙ sym (h .none)) i)
 
 -- at its start
-unlocked-settings : (x : Bool) (hz : Float) (h : Tracked) → settings (restartedIf x hz h .ekf) ≡ settings (h .ekf)
-unfolding restartedIf restarted resetTo
-unlocked-settings true hz h = refl
-unlocked-settings false hz h = refl
+unlocked-settings : (hz : Float) (h : Tracked) → settings (startedUnlocked hz h .ekf) ≡ settings (h .ekf)
+unfolding startedUnlocked restarted resetTo
+unlocked-settings hz h = either (λ (t : Tracked). settings (t .ekf) ≡ settings (h .ekf)) (h .ekf .«is_locked») refl refl
 
-start-constants : (x : Bool) (c : Channel) (l : List Float) → constants (startedBy x c l) ≡ constants c
-unfolding startedBy startedAt withAll moved startedUnlocked restarted resetTo
-start-constants true c l =
-    let hz = startFrequency (c .pll .ekf .modulation) (c .setup) l in
+start-constants : (hz : Float) (c : Channel) → constants (startedAt hz c) ≡ constants c
+unfolding startedAt withAll moved onEach restarted resetTo
+start-constants hz c =
     λ i. record {
       setup = c .setup;
       steps = c .bank .«max_fade_steps»;
       electrons = c .reading .electrons;
       pll = settings (c .pll .ekf);
-      t0 = unlocked-settings (not (c .bank .t0 .ekf .«is_locked»)) hz (c .bank .t0) i;
-      t1 = unlocked-settings (not (c .bank .t1 .ekf .«is_locked»)) hz (c .bank .t1) i;
-      t2 = unlocked-settings (not (c .bank .t2 .ekf .«is_locked»)) hz (c .bank .t2) i;
+      t0 = unlocked-settings hz (c .bank .t0) i;
+      t1 = unlocked-settings hz (c .bank .t1) i;
+      t2 = unlocked-settings hz (c .bank .t2) i;
     }
-start-constants false c l = refl
 
 started-constants : (c : Channel) (l : List Float) → constants (started c l) ≡ constants c
 unfolding started
-started-constants c l = start-constants (starts c) c l
+started-constants c l =
+    either (λ (d : Channel). constants d ≡ constants c) (starts c) (start-constants (startFrequency (c .pll .ekf .modulation) (c .setup) l) c) refl
 
 tracked-constants : (snr : Float) (c : Channel) (l m w : List Float) → Single c → constants (trackedOver snr c l m w .channel) ≡ constants c
 unfolding trackedOver
@@ -205,33 +212,31 @@ tracked-constants snr c l m w h =
 -- ---- the calls
 
 flag-constants : (k : ℕ) (c : Channel) (b : BlockArgs) (w : List Float) → Single c → constants (byFlag k c b w .channel) ≡ constants c
-unfolding byFlag withSignal untouched withoutSignal notLocked remembered withSnr moved bankWithoutSignal allUnlocked unlocked
+unfolding byFlag untouched withoutSignal notLocked remembered withSnr moved bankWithoutSignal onEach unlocked
 flag-constants zero c b w h = refl
 flag-constants (suc zero) c b w h =
     let e = started-constants c (b .first) in
-    tracked-constants _ (started c (b .first)) _ _ w (single-kept _ c e h) ∙ e
+    ap (λ (o : Outcome Channel). constants (o .channel)) (two-parts c b w) ∙ tracked-constants _ (started c (b .first)) _ _ w (single-kept _ c e h) ∙ e
 flag-constants (suc (suc zero)) c b w h = refl
 flag-constants (suc (suc (suc zero))) c b w h = refl
 flag-constants (suc (suc (suc (suc k)))) c b w h = refl
 
-status-constants : (i : Bool) (c : Channel) (b : BlockArgs) (w : List Float) → Single c → constants (byStatus i c b w .channel) ≡ constants c
-unfolding byStatus untouched notLocked moved withSnr
-status-constants true c b w h = refl
-status-constants false c b w h = flag-constants (b .flag) c b w h
+step-constants : (c : Channel) (b : BlockArgs) (w : List Float) → Single c → constants (blockStep c b w .channel) ≡ constants c
+unfolding blockStep untouched notLocked moved withSnr
+step-constants c b w h = either (λ (o : Outcome Channel). constants (o .channel) ≡ constants c) (idle (c .status)) refl (flag-constants (b .flag) c b w h)
 
-refusal-constants : (k : ℕ) (c : Channel) (b : BlockArgs) (w : List Float) → Single c → constants (byRefusal k c b w .channel) ≡ constants c
-unfolding byRefusal
-refusal-constants zero c b w h = status-constants _ c b w h
-refusal-constants (suc k) c b w h = refl
+block-constants : (c : Channel) (b : BlockArgs) (w : List Float) → Single c → constants (blocked c b w .channel) ≡ constants c
+unfolding blocked
+block-constants c b w h =
+    either (λ (o : Outcome Channel). constants (o .channel) ≡ constants c) (eqb (blockRefusal (c .setup .two) b (length w)) 0) (step-constants c b w h) refl
 
-assign-constants : (k : ℕ) (c : Channel) (a : Carriers) → constants (assignedBy k c a .channel) ≡ constants c
-unfolding assignedBy withCarriers
-assign-constants zero c a = refl
-assign-constants (suc k) c a = refl
+assign-constants : (c : Channel) (a : Carriers) → constants (assigned c a .channel) ≡ constants c
+unfolding assigned withCarriers
+assign-constants c a = either (λ (d : Channel). constants d ≡ constants c) (eqb (assignRefusal a (c .status)) 0) refl refl
 
 pub call-constants : (c : Channel) (d : Call) → Single c → constants (called c d .channel) ≡ constants c
-unfolding called asked lent assigned blocked released idleChannel restingBank unlocked
-call-constants c (ask (assign a)) h = assign-constants (assignRefusal a (c .status)) c a
+unfolding called released idleChannel restingBank unlocked
+call-constants c (ask (assign a)) h = assign-constants c a
 call-constants c (ask release) h = refl
 call-constants c (ask figures) h = refl
-call-constants c (lend (block b) w) h = refusal-constants _ c b w h
+call-constants c (lend (block b) w) h = block-constants c b w h

@@ -1,11 +1,12 @@
 -- Demand 3 holds. Assumes nothing.
-use Prim.Native.Nat.{ℕ, zero, suc, _*_}
+use Prim.Native.Nat.{_*_}
 use mathlib.Core.Path.{_≡_, refl, sym, _∙_, ap, subst}
-use mathlib.Core.Logic.{inl, inr, _≢_}
-use mathlib.Core.Bool.{true, false}
+use mathlib.Core.Logic.{inl, inr}
+use mathlib.Core.Bool.{true, false, cond}
 use mathlib.Core.List.{List, [], _∷_, _++_}
 use mathlib.Core.Option.{Option, none, some}
-use borrow.Author.Tests.{eq-eqb}
+use lib.Dec.{eqb}
+use borrow.Author.Tests.{eq-eqb, ne-eqb}
 use lib.Ieee.{Float, nan, inf, fin, eq, isNan, up, down}
 use Rattle.state_machines.specs.Runs.{after, answers}
 use Rattle.state_machines.proofs.Traces.{after-append, invariant}
@@ -18,12 +19,13 @@ use Rattle.channel_model.specs.declared.Channel.{Channel}
 use Rattle.channel_model.specs.declared.Answer.{Answer}
 use Rattle.channel_model.specs.Values.{unlocked}
 use Rattle.channel_model.specs.Opening as opening
-use Rattle.channel_model.specs.Opening.{openRefusal, newTracker, newSetup, restingBank, idleChannel, noCarriers, newChannel, refusedSettings, openedBy}
+use Rattle.channel_model.specs.Opening.{openRefusal, newTracker, newSetup, restingBank, idleChannel, noCarriers, newChannel, refusedSettings}
 use Rattle.channel_model.specs.Releasing.{released}
-use Rattle.channel_model.specs.Calls.{release, Call, ask, asked, called, model}
+use Rattle.channel_model.specs.Calls.{release, Call, ask, called, model}
 use Rattle.channel_independence.specs.Held as held
 use Rattle.channel_independence.specs.Held.{Equal, HandsBack}
 use Rattle.channel_independence.specs.Demand3.{OneFrequency, EndsReleased, afterOwn, Independent, Demand3, IndependentOfOne, SameCalls, SameFloat, SamePlace, neither, both, Demand3AsFloats}
+use Rattle.channel_independence.proofs.Choices.{either}
 use Rattle.channel_independence.proofs.Constants.{Constants, constants, Single, single-kept, call-constants}
 use Rattle.channel_independence.proofs.Waiting.{hidden, blind, seenBy, seen, Waiting, Apart, release-waiting}
 use Rattle.channel_independence.proofs.Steps.{Held, next, answer, Related, apart, call-step, Alike, still, same-call-step}
@@ -33,20 +35,14 @@ use Rattle.channel_independence.proofs.Steps.{Held, next, answer, Relat
 abbrev first : Settings → Channel
 first s = opening.opened s .channel
 
-refused-single : (s : Settings) (k : ℕ) → openedBy k s .refusal ≢ 0 → Single (openedBy k s .channel)
-unfolding openedBy newChannel newSetup idleChannel refusedSettings
-refused-single s zero x = absurd (x refl)
-refused-single s (suc k) x = record { one = refl; none = refl }
-
-off-single : (s : Settings) (k : ℕ) → s .two ≡ false → Single (openedBy k s .channel)
-unfolding openedBy newChannel newSetup idleChannel refusedSettings
-off-single s zero e = record { one = e; none = refl }
-off-single s (suc k) e = record { one = refl; none = refl }
+new-single : (s : Settings) → s .two ≡ false → Single (newChannel s)
+unfolding newChannel newSetup idleChannel
+new-single s e = record { one = e; none = refl }
 
 open-single : (s : Settings) → OneFrequency model s → Single (first s)
-unfolding OneFrequency opening.opened model
-open-single s (inl x) = refused-single s (openRefusal s) x
-open-single s (inr e) = off-single s (openRefusal s) e
+unfolding OneFrequency opening.opened model refusedSettings
+open-single s (inl x) = rw (ne-eqb (openRefusal s) 0 x) (new-single refusedSettings refl)
+open-single s (inr e) = new-single _ (either (λ (t : Settings). t .two ≡ false) (eqb (openRefusal s) 0) e refl)
 
 new-waiting : (s : Settings) → Waiting (newChannel s)
 unfolding newChannel idleChannel restingBank newTracker initialTracker
@@ -54,12 +50,8 @@ new-waiting s = record { ever = refl; pll = refl; t0 = refl; t1 = refl; t2 = ref
 
 -- a refused open makes a new channel too
 open-new : (P : Channel → Type 0) → ((s : Settings) → P (newChannel s)) → (s : Settings) → P (first s)
-unfolding opening.opened openedBy
-open-new P f s = go (openRefusal s)
-  where
-    go : (k : ℕ) → P (openedBy k s .channel)
-    go zero = f s
-    go (suc k) = f refusedSettings
+unfolding opening.opened
+open-new P f s = f (cond (eqb (openRefusal s) 0) s refusedSettings)
 
 -- the channel with the given constants, and all else as at opening
 stem : Constants → Channel
@@ -89,8 +81,8 @@ release-seen c = refl
 Keeps : Settings → Held → Type 0
 Keeps s h = constants (h .channel) ≡ constants (first s)
 
-abbrev opened : Settings → Held
-opened s = held.opened model s
+abbrev justOpened : Settings → Held
+justOpened s = held.justOpened model s
 
 keeps : (s : Settings) → Single (first s) → (h : Held) (c : Call) → Keeps s h → Keeps s (next h c)
 unfolding Keeps held.next model
@@ -102,12 +94,12 @@ record Fresh (s : Settings) (h : Held) : Type 0 where
   carriers : seen (h .channel) ≡ noCarriers
   waiting : Waiting (h .channel)
 
-opened-fresh : (s : Settings) → Fresh s (opened s)
-unfolding held.opened model
+opened-fresh : (s : Settings) → Fresh s (justOpened s)
+unfolding held.justOpened model
 opened-fresh s = record { blinded = refl; carriers = open-new (λ c. seen c ≡ noCarriers) new-seen s; waiting = open-new Waiting new-waiting s }
 
 released-fresh : (s : Settings) (h : Held) → Keeps s h → Fresh s (next h (ask release))
-unfolding Keeps held.next model called asked
+unfolding Keeps held.next model called
 released-fresh s h e =
     record {
       blinded = release-stem (h .channel) ∙ ap stem e ∙ sym (open-new (λ c. blind c ≡ stem (constants c)) new-stem s);
@@ -116,15 +108,15 @@ released-fresh s h e =
     }
 
 -- the last call of a list that ends in a release
-last : (s : Settings) (own front : List Call) → own ≡ front ++ (ask release ∷ []) → afterOwn model s own ≡ next (after next (opened s) front) (ask release)
+last : (s : Settings) (own front : List Call) → own ≡ front ++ (ask release ∷ []) → afterOwn model s own ≡ next (after next (justOpened s) front) (ask release)
 unfolding afterOwn after
-last s own front e = ap (after next (opened s)) e ∙ after-append next (opened s) front (ask release ∷ [])
+last s own front e = ap (after next (justOpened s)) e ∙ after-append next (justOpened s) front (ask release ∷ [])
 
 own-fresh : (s : Settings) → Single (first s) → (own : List Call) → EndsReleased own → Fresh s (afterOwn model s own)
-unfolding afterOwn EndsReleased after Keeps held.opened model
+unfolding afterOwn EndsReleased after Keeps held.justOpened model
 own-fresh s o own (inl e) = rw e (opened-fresh s)
 own-fresh s o own (inr (front, e)) =
-    subst (Fresh s) (sym (last s own front e)) (released-fresh s _ (invariant next (Keeps s) (keeps s o) (opened s) front refl))
+    subst (Fresh s) (sym (last s own front e)) (released-fresh s _ (invariant next (Keeps s) (keeps s o) (justOpened s) front refl))
 
 fresh-apart : (s : Settings) (g h : Held) → Fresh s g → Fresh s h → Apart (g .channel) (h .channel)
 fresh-apart s g h x y = record { blinded = x .blinded ∙ sym (y .blinded); carriers = x .carriers ∙ sym (y .carriers); first = x .waiting; second = y .waiting }

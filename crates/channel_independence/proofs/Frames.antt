@@ -12,13 +12,15 @@ use Rattle.bank_model.specs.declared.state.EkfTrackingBank.{EkfTrackingBank}
 use Rattle.bank_model.specs.Values.{withTrackers, marked}
 use Rattle.bank_model.specs.Discrepancy.{discrepancy}
 use Rattle.bank_model.specs.Choice.{chosen}
-use Rattle.bank_model.specs.Pruning.{droppedIf, drops1, drops2, pruned}
+use Rattle.bank_model.specs.Pruning.{dropped, drops1, drops2, pruned}
 use Rattle.bank_model.specs.Fade.{oneMore, inUse, faded, selected, finished}
 use Rattle.channel_model.specs.declared.Setup.{Setup}
 use Rattle.channel_model.specs.declared.Channel.{Channel}
 use Rattle.channel_model.specs.Values.{moved, unlocked}
-use Rattle.channel_model.specs.Tracking.{scaleOf, singleShownBy, bankShownBy, bankShown, shownBy}
-use Rattle.channel_model.specs.Blocks.{remembered, shownWith}
+use Rattle.channel_model.specs.Tracking.{scaleOf, singleShown, bankShown, withShown}
+use Rattle.channel_model.specs.Blocks.{remembered}
+use Rattle.channel_model.specs.Code.SignalStep.{shownWith}
+use Rattle.channel_independence.proofs.Choices.{either}
 
 -- the setup, the fade's steps, and the frames of the trackers
 pub record Frames : Type 0 where
@@ -45,10 +47,8 @@ frames c = framesBy (c .setup) (c .pll) (c .bank)
 
 -- ---- the bank: pruning, choice and fade
 
-dropped-frame : (x : Bool) (h : Tracked) → frame (droppedIf x h .ekf) ≡ frame (h .ekf)
-unfolding droppedIf
-dropped-frame true h = refl
-dropped-frame false h = refl
+dropped-frame : (x : Bool) (h : Tracked) → frame (cond x (dropped h) h .ekf) ≡ frame (h .ekf)
+dropped-frame x h = either (λ (g : Tracked). frame (g .ekf) ≡ frame (h .ekf)) x refl refl
 
 -- a bank that is one of two, both with the frames f
 either-frames : (s : Setup) (h : Tracked) (x : Bool) (a b : EkfTrackingBank) {f : Frames} → framesBy s h a ≡ f → framesBy s h b ≡ f → framesBy s h (cond x a b) ≡ f
@@ -62,7 +62,7 @@ pruned-frames k s h b =
     let u = b .t1 .ekf in
     let v = b .t2 .ekf in
     either-frames s h (lt float32.hundredFifty (discrepancy b))
-    (withTrackers b (b .t0) (droppedIf (drops1 k t u v) (b .t1)) (droppedIf (drops2 k t u v) (b .t2)) true) b
+    (withTrackers b (b .t0) (cond (drops1 k t u v) (dropped (b .t1)) (b .t1)) (cond (drops2 k t u v) (dropped (b .t2)) (b .t2)) true) b
     (λ i. record {
       setup = s;
       steps = b .«max_fade_steps»;
@@ -92,21 +92,22 @@ finished-frames k s h b = selected-frames s h (pruned k b) ∙ pruned-frames k s
 
 -- ---- what is shown then
 
-single-frames : (x : Bool) (c : Channel) → frames (singleShownBy x c) ≡ frames c
-unfolding singleShownBy moved
-single-frames true c = refl
-single-frames false c = refl
+single-frames : (c : Channel) → frames (singleShown c) ≡ frames c
+unfolding singleShown moved
+single-frames c = refl
 
-bank-frames : (x : Bool) (b : EkfTrackingBank) (c : Channel) → frames (bankShownBy x b c) ≡ framesBy (c .setup) (c .pll) b
-unfolding bankShownBy moved unlocked
-bank-frames true b c = refl
-bank-frames false b c = refl
+bank-frames : (b : EkfTrackingBank) (c : Channel) → frames (bankShown b c) ≡ framesBy (c .setup) (c .pll) b
+unfolding bankShown moved unlocked
+bank-frames b c =
+    either (λ (d : Channel). frames d ≡ framesBy (c .setup) (c .pll) b) (inUse b)
+    (either (λ (d : Channel). frames d ≡ framesBy (c .setup) (c .pll) b) (b .«in_fade») refl refl) refl
 
-pub shown-frames : (x : Bool) (c : Channel) → frames (shownBy x c) ≡ frames c
-unfolding shownBy bankShown
-shown-frames true c = bank-frames _ (finished (scaleOf c) (c .bank)) c ∙ finished-frames (scaleOf c) (c .setup) (c .pll) (c .bank)
-shown-frames false c = single-frames _ c
+shown-frames : (c : Channel) → frames (withShown c) ≡ frames c
+unfolding withShown
+shown-frames c =
+    either (λ (d : Channel). frames d ≡ frames c) (c .setup .bank)
+    (bank-frames (finished (scaleOf c) (c .bank)) c ∙ finished-frames (scaleOf c) (c .setup) (c .pll) (c .bank)) (single-frames c)
 
 pub with-frames : (snr : Float) (c : Channel) → frames (shownWith snr c) ≡ frames c
 unfolding shownWith remembered
-with-frames snr c = shown-frames (c .setup .bank) c
+with-frames snr c = shown-frames c

@@ -18,8 +18,8 @@ use Rattle.channel_model.specs.declared.Settings.{Settings}
 use Rattle.channel_model.specs.declared.Channel.{Channel}
 use Rattle.channel_model.specs.Refusals.{BlockArgs}
 use Rattle.channel_model.specs.Blocks.{blocked}
-use Rattle.channel_model.specs.Calls.{Lend, block, Call, ask, lend, Interface, lent, called, model}
-use Rattle.channel_independence.specs.Held.{windowSize, Held, opened, leftAfter, next, Equal, asks, lends, HandsBack}
+use Rattle.channel_model.specs.Calls.{Lend, block, Call, ask, lend, Interface, called, model}
+use Rattle.channel_independence.specs.Held.{Held, justOpened, leftAfter, next, Equal, asks, lends, HandsBack}
 use Rattle.channel_independence.specs.Demand3.{afterOwn, Reached, EveryList}
 use Rattle.channel_independence.proofs.Windows.{LiveAt, Windows}
 use Rattle.channel_independence.proofs.SameChannel.{block-same}
@@ -28,7 +28,7 @@ use Rattle.channel_independence.proofs.SameChannel.{block-same}
 
 -- the window memory of a call: what was left, where its length is right and there is such
 given : {X : Type 0} → Held X → List Float → List Float
-given h w = cond (eqb (length w) windowSize) (Option·getD (h .left) w) w
+given h w = cond (eqb (length w) 8192) (Option·getD (h .left) w) w
 
 handed : {X : Type 0} → Held X → Call → Call
 handed h (ask a) = ask a
@@ -40,21 +40,21 @@ handedAll m h (c ∷ cs) = handed h c ∷ handedAll m (next m h (handed h c)) cs
 
 -- what was left has the right length
 Sized : {X : Type 0} → Held X → Type 0
-Sized h = (m : List Float) → h .left ≡ some m → length m ≡ windowSize
+Sized h = (m : List Float) → h .left ≡ some m → length m ≡ 8192
 
 given-length : {X : Type 0} (h : Held X) (w : List Float) → Sized h → length (given h w) ≡ length w
 unfolding given Sized
-given-length h w z = go (eqb (length w) windowSize) refl (h .left) z
+given-length h w z = go (eqb (length w) 8192) refl (h .left) z
   where
-    go : (b : Bool) → eqb (length w) windowSize ≡ b → (o : Option (List Float)) → ((m : List Float) → o ≡ some m → length m ≡ windowSize)
+    go : (b : Bool) → eqb (length w) 8192 ≡ b → (o : Option (List Float)) → ((m : List Float) → o ≡ some m → length m ≡ 8192)
         → length (cond b (Option·getD o w) w) ≡ length w
     go false e o y = refl
     go true e none y = refl
-    go true e (some m) y = y m refl ∙ sym (eqb-true (length w) windowSize e)
+    go true e (some m) y = y m refl ∙ sym (eqb-true (length w) 8192 e)
 
-given-back : {X : Type 0} (h : Held X) (w : List Float) → Sized h → length (given h w) ≡ windowSize → (m : List Float) → h .left ≡ some m → given h w ≡ m
+given-back : {X : Type 0} (h : Held X) (w : List Float) → Sized h → length (given h w) ≡ 8192 → (m : List Float) → h .left ≡ some m → given h w ≡ m
 unfolding given
-given-back h w z e m l = rw (eq-eqb (length w) windowSize (sym (given-length h w z) ∙ e), l)
+given-back h w z e m l = rw (eq-eqb (length w) 8192 (sym (given-length h w z) ∙ e), l)
 
 handed-equal : {X : Type 0} (h : Held X) (c : Call) → Sized h → Equal c (handed h c)
 unfolding handed
@@ -73,15 +73,15 @@ handed-back h (lend l w) z = given-back h w z
 
 -- ---- whole lists, of any calls that leave window memory at its length
 module _ {X : Type 0} (m : Interface X)
-    (stays : (x : X) (l : Lend) (w : List Float) → length w ≡ windowSize → length (m .calls x (lend l w) .memory .windows) ≡ windowSize) where
+    (stays : (x : X) (l : Lend) (w : List Float) → length w ≡ 8192 → length (m .calls x (lend l w) .memory .windows) ≡ 8192) where
   sized-next : (h : Held X) (c : Call) → Sized h → Sized (next m h c)
   unfolding Sized next leftAfter
   sized-next h (ask a) z = z
-  sized-next h (lend l w) z = go (eqb (length w) windowSize) refl
+  sized-next h (lend l w) z = go (eqb (length w) 8192) refl
     where
-      go : (s : Bool) → eqb (length w) windowSize ≡ s → (n : List Float) → cond s (some (m .calls (h .channel) (lend l w) .memory .windows)) (h .left) ≡ some n
-          → length n ≡ windowSize
-      go true e n f = let p : m .calls (h .channel) (lend l w) .memory .windows ≡ n = cc in rw (← p) (stays (h .channel) l w (eqb-true (length w) windowSize e))
+      go : (s : Bool) → eqb (length w) 8192 ≡ s → (n : List Float) → cond s (some (m .calls (h .channel) (lend l w) .memory .windows)) (h .left) ≡ some n
+          → length n ≡ 8192
+      go true e n f = let p : m .calls (h .channel) (lend l w) .memory .windows ≡ n = cc in rw (← p) (stays (h .channel) l w (eqb-true (length w) 8192 e))
       go false e n f = z n f
 
   equal-all : (h : Held X) (cs : List Call) → Sized h → Places Equal cs (handedAll m h cs)
@@ -100,13 +100,13 @@ module _ {X : Type 0} (m : Interface X)
   both-all g h (c ∷ cs) y z =
       runs.place (handed-both g h c y z) (both-all (next m g (handed g c)) (next m h (handed h c)) cs (sized-next g (handed g c) y) (sized-next h (handed h c) z))
 
-  opened-sized : (s : Settings) → Sized (opened m s)
-  unfolding Sized opened
+  opened-sized : (s : Settings) → Sized (justOpened m s)
+  unfolding Sized justOpened
   opened-sized s n e = cc
 
   own-sized : (s : Settings) (own : List Call) → Sized (afterOwn m s own)
   unfolding afterOwn
-  own-sized s own = invariant (next m) Sized sized-next (opened m s) own (opened-sized s)
+  own-sized s own = invariant (next m) Sized sized-next (justOpened m s) own (opened-sized s)
 
   pub all-reached : Reached m
   unfolding Reached
@@ -132,8 +132,8 @@ with-itself c w e =
 block-length : (c : Channel) (b : BlockArgs) (w : List Float) → length w ≡ 8192 → length (blocked c b w .windows) ≡ 8192
 block-length c b w e = block-same c c b w w refl (with-itself c w e) .live .size₁
 
-pub lend-length : (c : Channel) (l : Lend) (w : List Float) → length w ≡ windowSize → length (model .calls c (lend l w) .memory .windows) ≡ windowSize
-unfolding model called lent
+pub lend-length : (c : Channel) (l : Lend) (w : List Float) → length w ≡ 8192 → length (model .calls c (lend l w) .memory .windows) ≡ 8192
+unfolding model called
 lend-length c (block b) w e = block-length c b w e
 
 pub every-list : EveryList

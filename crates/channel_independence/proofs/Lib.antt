@@ -1,4 +1,5 @@
 -- Demand 3 is proved in Demand3; the files before it lead there.
+pub mod Choices
 pub mod Frames
 pub mod Constants
 pub mod Windows

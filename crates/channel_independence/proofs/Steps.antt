@@ -1,6 +1,6 @@
 -- The relation between two channels that have had equal calls since they were opened or released, and that each pair of equal calls keeps it and
 -- answers the same. Assumes nothing.
-use Prim.Native.Nat.{ℕ, zero, suc}
+use Prim.Native.Nat.{ℕ}
 use mathlib.Core.Path.{_≡_, refl, sym, _∙_, ap}
 use mathlib.Core.Bool.{Bool, true, false, not, _&&_, _||_, cond}
 use mathlib.Core.List.{List}
@@ -14,13 +14,14 @@ use Rattle.channel_samples.specs.Limits.{allInRange}
 use Rattle.channel_model.specs.declared.Carriers.{Carriers}
 use Rattle.channel_model.specs.declared.Channel.{Channel}
 use Rattle.channel_model.specs.declared.Answer.{Answer}
-use Rattle.channel_model.specs.Assigning.{assignRefusal, withCarriers, assignedBy, assigned}
+use Rattle.channel_model.specs.Assigning.{assignRefusal, withCarriers, assigned}
 use Rattle.channel_model.specs.Answers.{refusedAnswer}
-use Rattle.channel_model.specs.Refusals.{BlockArgs, badLength, badSecond, refusalBy, blockRefusal}
-use Rattle.channel_model.specs.Blocks.{byRefusal, blocked}
-use Rattle.channel_model.specs.Calls.{Ask, assign, release, figures, Lend, block, Call, ask, lend, asked, lent, called, model}
+use Rattle.channel_model.specs.Refusals.{firstCause, BlockArgs, badLength, blockRefusal}
+use Rattle.channel_model.specs.Blocks.{blocked}
+use Rattle.channel_model.specs.Calls.{Ask, assign, release, figures, Lend, block, Call, ask, lend, called, model}
 use Rattle.channel_independence.specs.Held as held
 use Rattle.channel_independence.specs.Held.{Equal, asks, lends, compared, HandsBack}
+use Rattle.channel_independence.proofs.Choices.{either}
 use Rattle.channel_independence.proofs.Frames.{frames}
 use Rattle.channel_independence.proofs.Windows.{Windows}
 use Rattle.channel_independence.proofs.SameChannel.{Same, windows-kept, block-same}
@@ -50,41 +51,38 @@ Step g h c d = Agree next next answer answer Related (λ (a b : Option Answer). 
 
 -- ---- window memory of another length: the block is refused, and all stays
 
-by-size : (flag : ℕ) (two : Bool) (n m : ℕ) (inRange : Bool) (size : ℕ) → eqb size 8192 ≡ false → (k : ℕ) × (refusalBy flag two n m inRange size ≡ suc k)
-unfolding refusalBy
-by-size flag two n m inRange size e =
-    rw e (go (ltb 4 flag) (badLength n || badLength m) (ltb 1 flag && ltb 0 n) (badSecond two n m) (not inRange))
-  where
-    go : (x y z t u : Bool) → (k : ℕ) × (cond x 7 (cond y 8 (cond z 9 (cond t 10 (cond u 11 12)))) ≡ suc k)
-    go true y z t u = (6, refl)
-    go false true z t u = (7, refl)
-    go false false true t u = (8, refl)
-    go false false false true u = (9, refl)
-    go false false false false true = (10, refl)
-    go false false false false false = (11, refl)
-
-refused-size : (two : Bool) (b : BlockArgs) (size : ℕ) → eqb size 8192 ≡ false → (k : ℕ) × (blockRefusal two b size ≡ suc k)
-unfolding blockRefusal
+refused-size : (two : Bool) (b : BlockArgs) (size : ℕ) → eqb size 8192 ≡ false → eqb (blockRefusal two b size) 0 ≡ false
+unfolding blockRefusal firstCause
 refused-size two b size e =
-    by-size (b .flag) two (length (b .first)) (length (b .second)) (allInRange (b .first) && allInRange (b .second)) size e
+    rw e
+    (go (ltb 4 (b .flag)) (badLength (b .first) || badLength (b .second)) (ltb 1 (b .flag) && ltb 0 (length (b .first)))
+    (not (eqb (length (b .second)) (cond two (length (b .first)) 0))) (not (allInRange (b .first) && allInRange (b .second))))
+  where
+    go : (x y z t u : Bool) → eqb (cond x 7 (cond y 8 (cond z 9 (cond t 10 (cond u 11 12))))) 0 ≡ false
+    go true y z t u = refl
+    go false true z t u = refl
+    go false false true t u = refl
+    go false false false true u = refl
+    go false false false false true = refl
+    go false false false false false = refl
 
-refused-channel : (c : Channel) (b : BlockArgs) (w : List Float) (k : ℕ) → blockRefusal (c .setup .two) b (length w) ≡ suc k → blocked c b w .channel ≡ c
-unfolding blocked byRefusal
-refused-channel c b w k e = ap (λ (n : ℕ). byRefusal n c b w .channel) e
+refused-channel : (c : Channel) (b : BlockArgs) (w : List Float) → eqb (blockRefusal (c .setup .two) b (length w)) 0 ≡ false → blocked c b w .channel ≡ c
+unfolding blocked
+refused-channel c b w e = rw e
 
 refused-left : (g : Held) (b : BlockArgs) (w : List Float) → eqb (length w) 8192 ≡ false → held.leftAfter model g (lend (block b) w) ≡ g .left
 unfolding held.leftAfter
 refused-left g b w s = rw s
 
-refused-next : (g : Held) (b : BlockArgs) (w : List Float) (k : ℕ) → eqb (length w) 8192 ≡ false → blockRefusal (g .channel .setup .two) b (length w) ≡ suc k
-    → next g (lend (block b) w) ≡ g
-unfolding held.next model called lent
-refused-next g b w k s e = λ i. record { channel = refused-channel (g .channel) b w k e i; left = refused-left g b w s i }
+refused-next : (g : Held) (b : BlockArgs) (w : List Float) → eqb (length w) 8192 ≡ false → next g (lend (block b) w) ≡ g
+unfolding held.next model called
+refused-next g b w s =
+    λ i. record { channel = refused-channel (g .channel) b w (refused-size (g .channel .setup .two) b (length w) s) i; left = refused-left g b w s i }
 
-refused-answer : (g : Held) (b : BlockArgs) (w : List Float) (k : ℕ) → blockRefusal (g .channel .setup .two) b (length w) ≡ suc k
-    → answer g (lend (block b) w) ≡ some (refusedAnswer (suc k))
-unfolding held.answer model called lent compared blocked byRefusal
-refused-answer g b w k e = ap (λ (n : ℕ). some (byRefusal n (g .channel) b w .answer)) e
+refused-answer : (g : Held) (b : BlockArgs) (w : List Float) → eqb (length w) 8192 ≡ false
+    → answer g (lend (block b) w) ≡ some (refusedAnswer (blockRefusal (g .channel .setup .two) b (length w)))
+unfolding held.answer model called compared blocked
+refused-answer g b w s = rw (refused-size (g .channel .setup .two) b (length w) s)
 
 related-blind : (g h : Held) → Related g h → blind (g .channel) ≡ blind (h .channel)
 related-blind g h (apart e) = e .blinded
@@ -97,22 +95,20 @@ related-two g h r = ap (λ (x : Channel). x .setup .two) (related-blind g h r)
 refused-step : (g h : Held) (b : BlockArgs) (w v : List Float) → length w ≡ length v → eqb (length w) 8192 ≡ false → Related g h → Step g h (lend (block b) w) (lend (block b) v)
 refused-step g h b w v l s r =
     let s′ : eqb (length v) 8192 ≡ false = ap (λ (n : ℕ). eqb n 8192) (sym l) ∙ s in
-    let k = refused-size (g .channel .setup .two) b (length w) s in
-    let e′ : blockRefusal (h .channel .setup .two) b (length v) ≡ suc (k .0) = (λ i. blockRefusal (sym (related-two g h r) i) b (sym l i)) ∙ k .1 in
     record {
-      related = rw (refused-next g b w (k .0) s (k .1), refused-next h b v (k .0) s′ e′) r;
-      agreed = refused-answer g b w (k .0) (k .1) ∙ sym (refused-answer h b v (k .0) e′);
+      related = rw (refused-next g b w s, refused-next h b v s′) r;
+      agreed = refused-answer g b w s ∙ (λ i. some (refusedAnswer (blockRefusal (related-two g h r i) b (l i)))) ∙ sym (refused-answer h b v s′);
     }
 
 -- ---- a block with memory of the right length
 
 block-left : (g : Held) (b : BlockArgs) (w : List Float) → length w ≡ 8192 → next g (lend (block b) w) .left ≡ some (blocked (g .channel) b w .windows)
-unfolding held.next held.leftAfter model called lent
+unfolding held.next held.leftAfter model called
 block-left g b w e = rw e
 
 same-step : (g h : Held) (b : BlockArgs) (w v : List Float) → length w ≡ 8192 → length v ≡ 8192 → Same (blocked (g .channel) b w) (blocked (h .channel) b v)
     → Step g h (lend (block b) w) (lend (block b) v)
-unfolding held.next held.answer model called lent compared
+unfolding held.next held.answer model called compared
 same-step g h b w v p q a =
     record {
       related = together _ _ (a .channel) (block-left g b w p) (block-left h b v q) (a .live);
@@ -121,7 +117,7 @@ same-step g h b w v p q a =
 
 led-step : (g h : Held) (b : BlockArgs) (w v : List Float) → length w ≡ 8192 → length v ≡ 8192 → Led (blocked (g .channel) b w) (blocked (h .channel) b v)
     → Step g h (lend (block b) w) (lend (block b) v)
-unfolding held.next held.answer model called lent compared
+unfolding held.next held.answer model called compared
 led-step g h b w v p q (waits a e) = record { related = apart e; agreed = ap some a }
 led-step g h b w v p q (meets a) = same-step g h b w v p q a
 
@@ -145,15 +141,11 @@ block-step g h b w v l r x y = go (eqb (length w) 8192) refl r
 -- ---- the other calls
 
 assign-frames : (c : Channel) (a : Carriers) → frames (assigned c a .channel) ≡ frames c
-unfolding assigned assignedBy withCarriers
-assign-frames c a = go (assignRefusal a (c .status))
-  where
-    go : (k : ℕ) → frames (assignedBy k c a .channel) ≡ frames c
-    go zero = refl
-    go (suc k) = refl
+unfolding assigned withCarriers
+assign-frames c a = either (λ (d : Channel). frames d ≡ frames c) (eqb (assignRefusal a (c .status)) 0) refl refl
 
 assign-step : (g h : Held) (a : Carriers) → Related g h → Step g h (ask (assign a)) (ask (assign a))
-unfolding held.next held.leftAfter held.answer model called asked compared
+unfolding held.next held.leftAfter held.answer model called compared
 assign-step g h a (apart e) = record { related = apart (assign-apart _ _ a e); agreed = refl }
 assign-step g h a (together w v e i j k) =
     record {
@@ -162,11 +154,11 @@ assign-step g h a (together w v e i j k) =
     }
 
 release-step : (g h : Held) → Related g h → Step g h (ask release) (ask release)
-unfolding held.next held.leftAfter held.answer model called asked compared
+unfolding held.next held.leftAfter held.answer model called compared
 release-step g h r = record { related = apart (release-apart _ _ (related-blind g h r)); agreed = refl }
 
 figures-step : (g h : Held) → Related g h → Step g h (ask figures) (ask figures)
-unfolding held.next held.leftAfter held.answer model called asked compared
+unfolding held.next held.leftAfter held.answer model called compared
 figures-step g h r = record { related = r; agreed = refl }
 
 ask-step : (g h : Held) (a : Ask) → Related g h → Step g h (ask a) (ask a)

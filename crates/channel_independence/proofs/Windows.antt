@@ -22,7 +22,7 @@ use Rattle.bank_model.specs.Code.TrackerByTracker.{trackerByTracker}
 use Rattle.bank_model.proofs.SampleOrder.{orders-agree}
 use Rattle.channel_model.specs.declared.Channel.{Channel}
 use Rattle.channel_model.specs.Values.{moved, withAll}
-use Rattle.channel_model.specs.Tracking.{interval, ChannelWindows, followedBy}
+use Rattle.channel_model.specs.Tracking.{interval, followedBy}
 
 -- ---- one stretch
 
@@ -35,7 +35,7 @@ record Turned (i : ℕ) (w v : List Float) (a b : tracking.TrackerWindow) : Type
   same : a .0 ≡ b .0
   size₁ : length (a .1) ≡ 8192
   size₂ : length (b .1) ≡ 8192
-  here : LiveAt i (a .0 .ekf .«pr_pushed») (a .1) (b .1)
+  here : LiveAt i (a .0 .ekf .power .pushed) (a .1) (b .1)
   others : (j n : ℕ) → j < 4 → (j < i) ⊎ (i < j) → LiveAt j n w v → LiveAt j n (a .1) (b .1)
 
 module _ (i : ℕ) (i<4 : i < 4) where
@@ -47,7 +47,7 @@ module _ (i : ℕ) (i<4 : i < 4) where
   other w p j e l h (inl x) = stretch-apart w (2048 * i) 2048 p nan (fits w e) l (2048 * j) 2048 (omega arith) (inl (omega arith))
   other w p j e l h (inr x) = stretch-apart w (2048 * i) 2048 p nan (fits w e) l (2048 * j) 2048 (omega arith) (inr (omega arith))
 
-  turned : (dt : Float) (fade : Bool) (l : Lists) (h : Tracked) (w v : List Float) → length w ≡ 8192 → length v ≡ 8192 → LiveAt i (h .ekf .«pr_pushed») w v
+  turned : (dt : Float) (fade : Bool) (l : Lists) (h : Tracked) (w v : List Float) → length w ≡ 8192 → length v ≡ 8192 → LiveAt i (h .ekf .power .pushed) w v
       → Turned i w v (onStretch i dt fade l (h, w)) (onStretch i dt fade l (h, v))
   unfolding onStretch within
   turned dt fade l h w v e f live =
@@ -70,10 +70,14 @@ module _ (i : ℕ) (i<4 : i < 4) where
 pub record Windows (c : Channel) (w v : List Float) : Type 0 where
   pub size₁ : length w ≡ 8192
   pub size₂ : length v ≡ 8192
-  pub pll : LiveAt 0 (c .pll .ekf .«pr_pushed») w v
-  pub t0 : LiveAt 1 (c .bank .t0 .ekf .«pr_pushed») w v
-  pub t1 : LiveAt 2 (c .bank .t1 .ekf .«pr_pushed») w v
-  pub t2 : LiveAt 3 (c .bank .t2 .ekf .«pr_pushed») w v
+  pub pll : LiveAt 0 (c .pll .ekf .power .pushed) w v
+  pub t0 : LiveAt 1 (c .bank .t0 .ekf .power .pushed) w v
+  pub t1 : LiveAt 2 (c .bank .t1 .ekf .power .pushed) w v
+  pub t2 : LiveAt 3 (c .bank .t2 .ekf .power .pushed) w v
+
+-- a channel with its window memory
+abbrev pub ChannelWindows : Type 0
+ChannelWindows = Channel × List Float
 
 -- two channels with their memories: the channels are the same, and the memories agree where they may be read
 pub record Alike (a b : ChannelWindows) : Type 0 where

@@ -12,7 +12,7 @@ use Rattle.state_machines.specs.Runs.{after, answers, Along, Places}
 use Rattle.channel_model.specs.declared.Settings.{Settings}
 use Rattle.channel_model.specs.declared.Answer.{Answer}
 use Rattle.channel_model.specs.Calls.{release, Call, ask, Interface, model}
-use Rattle.channel_independence.specs.Held.{Held, opened, next, answer, Equal, HandsBack}
+use Rattle.channel_independence.specs.Held.{Held, justOpened, next, answer, Equal, HandsBack}
 
 -- "Both channels come from open calls with equal settings, either accepted with two frequencies off, or refused."
 unfoldable pub OneFrequency : {X : Type 0} → Interface X → Settings → Type 0
@@ -25,7 +25,7 @@ EndsReleased own = (own ≡ []) ⊎ ((front : List Call) × (own ≡ front ++ (a
 -- The channel opened with s, after its own list of calls. Nothing is asked of the window memory there: "In a channel's own list of calls its contents
 -- are any at every call."
 unfoldable pub afterOwn : {X : Type 0} → Interface X → Settings → List Call → Held X
-afterOwn m s own = after (next m) (opened m s) own
+afterOwn m s own = after (next m) (justOpened m s) own
 
 -- The claim about open and the calls of m, by which settings it speaks of and what is asked of two answers at the same place. "Settings and calls, though,
 -- count as equal only bit for bit", and so they do in what it takes as given: there `≡` tells all floats apart but one NaN from another, which makes the

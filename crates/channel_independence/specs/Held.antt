@@ -1,6 +1,5 @@
 -- What a caller holds between two calls, what a list of calls leads to and answers, and when two calls are equal (the scope, module 9, "Demand 3 is one claim
 -- about whole lists of calls"). Definitions only.
-use Prim.Native.Nat.{ℕ}
 use mathlib.Core.Path.{_≡_}
 use mathlib.Core.Bool.{cond}
 use mathlib.Core.List.{List}
@@ -12,24 +11,20 @@ use Rattle.channel_model.specs.declared.Settings.{Settings}
 use Rattle.channel_model.specs.declared.Answer.{Answer}
 use Rattle.channel_model.specs.Calls.{Ask, Lend, Call, ask, lend, Reply, nothing, answered, shown, Interface}
 
--- "at length 8,192": the length that window memory has to have
-abbrev pub windowSize : ℕ
-windowSize = 8192
-
--- A channel as its last call returned it, and what the last block call with window memory of the right length, "refused or not", left in that
+-- A channel as its last call returned it, and what the last block call with window memory "at length 8,192", "refused or not", left in that
 -- memory: none before the first such call. X is the type of channels.
 pub record Held (X : Type 0) : Type 0 where
   pub channel : X
   pub left : Option (List Float)
 
 -- a channel just opened with s, or the one that a refused open returns; it has had no block
-unfoldable pub opened : {X : Type 0} → Interface X → Settings → Held X
-opened m s = record { channel = m .opens s .channel; left = none }
+unfoldable pub justOpened : {X : Type 0} → Interface X → Settings → Held X
+justOpened m s = record { channel = m .opens s .channel; left = none }
 
 -- window memory as it was last left, after one more call
 unfoldable pub leftAfter : {X : Type 0} → Interface X → Held X → Call → Option (List Float)
 leftAfter m h (ask a) = h .left
-leftAfter m h (lend l w) = cond (eqb (length w) windowSize) (some (m .calls (h .channel) (lend l w) .memory .windows)) (h .left)
+leftAfter m h (lend l w) = cond (eqb (length w) 8192) (some (m .calls (h .channel) (lend l w) .memory .windows)) (h .left)
 
 -- "Each call gets the channel as the last one returned it"
 unfoldable pub next : {X : Type 0} → Interface X → Held X → Call → Held X
@@ -53,4 +48,4 @@ pub data Equal : Call → Call → Type 0 where
 -- refused or not, from either list; before the first such call they are any. Another length is refused in both."
 unfoldable pub HandsBack : {X : Type 0} → Held X → Call → Type 0
 HandsBack h (ask a) = Unit {0}
-HandsBack h (lend l w) = length w ≡ windowSize → (m : List Float) → h .left ≡ some m → w ≡ m
+HandsBack h (lend l w) = length w ≡ 8192 → (m : List Float) → h .left ≡ some m → w ≡ m

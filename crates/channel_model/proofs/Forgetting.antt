@@ -5,7 +5,7 @@ use Rattle.channel_model.specs.declared.Channel.{Channel}
 use Rattle.channel_model.specs.Values.{unlocked}
 use Rattle.channel_model.specs.Opening.{restingBank, idleChannel}
 use Rattle.channel_model.specs.Releasing.{keptCarriers, released}
-use Rattle.channel_model.specs.Calls.{release, asked}
+use Rattle.channel_model.specs.Calls.{release, ask, called}
 
 -- the channel c, with these of the channel d
 unfoldable pub marked : Channel → Channel → Channel
@@ -44,6 +44,6 @@ marked c d =
           };
     }
 
-pub release-forgets : (c d : Channel) → asked (marked c d) release ≡ asked c release
-unfolding marked asked released keptCarriers idleChannel restingBank unlocked
+pub release-forgets : (c d : Channel) → called (marked c d) (ask release) ≡ called c (ask release)
+unfolding marked called released keptCarriers idleChannel restingBank unlocked
 release-forgets c d = refl

@@ -1,3 +1,4 @@
--- Demand 1, and what a release forgets.
+-- Demand 1, what a release forgets, and a block with a signal in two parts.
 pub mod Demand1
 pub mod Forgetting
+pub mod SignalParts

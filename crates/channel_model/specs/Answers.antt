@@ -37,17 +37,7 @@ answerOf c =
 
 -- "other fields 0, tracker 3"
 unfoldable pub refusedAnswer : ℕ → Answer
-refusedAnswer number =
-    record {
-      refusal = number;
-      locked = false;
-      tracker = 3;
-      «in_fade» = false;
-      «fade_count» = 0;
-      ended = false;
-      phase = float.zero;
-      frequency = float.zero;
-      snr = float.zero;
-      electrons = float.zero;
-      metric = float.zero;
-    }
+refusedAnswer n =
+    let f = false in
+    let o = float.zero in
+    record { refusal = n; locked = f; tracker = 3; «in_fade» = f; «fade_count» = 0; ended = f; phase = o; frequency = o; snr = o; electrons = o; metric = o }

@@ -1,7 +1,8 @@
 -- Block (the scope, module 9). The step of a block stands apart from its refusals. Definitions only.
 use Prim.Native.Nat.{ℕ, zero, suc}
-use mathlib.Core.Bool.{Bool, true, false}
+use mathlib.Core.Bool.{false, cond}
 use mathlib.Core.List.{List}
+use lib.Dec.{eqb}
 use lib.ListN.{length}
 use lib.Ieee.{Float, binary32, neg}
 use Rattle.ieee754.specs.Conversion.{convert}
@@ -9,29 +10,28 @@ use Rattle.ieee754.specs.Binary64 as float
 use Rattle.tracker.specs.declared.state.Tracked.{Tracked}
 use Rattle.bank_model.specs.declared.state.EkfTrackingBank.{EkfTrackingBank}
 use Rattle.bank_model.specs.Values.{marked}
-use Rattle.bank_model.specs.Following.{Lists}
 use Rattle.channel_samples.specs.Normalisation.{normalised}
 use Rattle.estimate_snr.specs.MomentEstimate.{snrOf}
 use Rattle.channel_model.specs.declared.Answer.{Answer}
 use Rattle.channel_model.specs.declared.Channel.{Channel}
 use Rattle.channel_model.specs.declared.Blocked.{Blocked}
-use Rattle.channel_model.specs.Values.{channelOf, moved, withSnr, unlocked, allUnlocked}
+use Rattle.channel_model.specs.Values.{channelOf, moved, withSnr, unlocked, onEach}
 use Rattle.channel_model.specs.Assigning.{idle}
 use Rattle.channel_model.specs.Answers.{answerOf, refusedAnswer}
 use Rattle.channel_model.specs.Refusals.{BlockArgs, blockRefusal}
 use Rattle.channel_model.specs.Starting.{started}
-use Rattle.channel_model.specs.Tracking.{ChannelWindows, followedBy, shownBy}
+use Rattle.channel_model.specs.Tracking.{followedBy, withShown}
 
--- What a block call gives back: the answer, the channel, and what stands in the two lists and the window memory.
-pub record Outcome : Type 0 where
+-- What a block call gives back: the answer, the channel, and what stands in the two lists and the window memory. X is the type of channels.
+pub record Outcome (X : Type 0) : Type 0 where
   pub answer : Answer
-  pub channel : Channel
+  pub channel : X
   pub first : List Float
   pub second : List Float
   pub windows : List Float
 
 -- the lists and the window memory stay, and the answer shows the channel
-unfoldable pub untouched : Channel → BlockArgs → List Float → Outcome
+unfoldable pub untouched : Channel → BlockArgs → List Float → Outcome Channel
 untouched c b w = record { answer = answerOf c; channel = c; first = b .first; second = b .second; windows = w }
 
 -- ---- Idle, and the flags 2, 3 and 4
@@ -49,58 +49,43 @@ remembered c snr =
 
 -- a bank without a signal: all trackers unlock, none is in use, no fade; the count and the mark of having ended stay
 unfoldable pub bankWithoutSignal : EkfTrackingBank → EkfTrackingBank
-bankWithoutSignal b = marked (allUnlocked b) 3 false (b .«fade_counter») (b .«terminated_in_fade»)
+bankWithoutSignal b = marked (onEach unlocked b) 3 false (b .«fade_counter») (b .«terminated_in_fade»)
 
 -- flag 0: no signal
 unfoldable pub withoutSignal : Channel → List Float → Channel
 withoutSignal c l = remembered (moved c (unlocked (c .pll)) (bankWithoutSignal (c .bank)) (c .«ever_locked») false (c .reading)) (snrOf l)
 
--- the second list is normalised with two frequencies
-unfoldable pub secondNormalised : Bool → List Float → List Float
-secondNormalised true l = normalised l
-secondNormalised false l = l
-
--- what the trackers show, and the SNR
-unfoldable pub shownWith : Float → Channel → Channel
-shownWith snr c = remembered (shownBy (c .setup .bank) c) snr
-
--- flag 1, the trackers started: over the normalised lists l and m, which are left in the lent memory
-unfoldable pub trackedOver : Float → Channel → List Float → List Float → List Float → Outcome
-trackedOver snr c l m w =
-    let h = followedBy (c .setup .bank) c (record { two = c .setup .two; first = l; second = m }) w in
-    let d = shownWith snr (h .0) in
-    record { answer = answerOf d; channel = d; first = l; second = m; windows = h .1 }
-
--- flag 1: a signal. The SNR and the start look at the list as it came
-unfoldable pub withSignal : Channel → BlockArgs → List Float → Outcome
+-- Flag 1: a signal. The SNR and the start look at the list as it came. The trackers take the normalised lists, which are left in the lent memory; the second
+-- is normalised with two frequencies.
+unfoldable pub withSignal : Channel → BlockArgs → List Float → Outcome Channel
 withSignal c b w =
-    trackedOver (snrOf (b .first)) (started c (b .first)) (normalised (b .first)) (secondNormalised (c .setup .two) (b .second)) w
+    let s = started c (b .first) in
+    let l = normalised (b .first) in
+    let m = cond (c .setup .two) (normalised (b .second)) (b .second) in
+    let h = followedBy (s .setup .bank) s (record { two = s .setup .two; first = l; second = m }) w in
+    let d = remembered (withShown (h .0)) (snrOf (b .first)) in
+    record { answer = answerOf d; channel = d; first = l; second = m; windows = h .1 }
 
 -- ---- the call
 
 -- by the flag, which is the survey's number: 2 a NaN, 3 clipped, 4 no pairs, with the SNR 0, 0.5 and -5
-unfoldable pub byFlag : ℕ → Channel → BlockArgs → List Float → Outcome
+unfoldable pub byFlag : ℕ → Channel → BlockArgs → List Float → Outcome Channel
 byFlag zero c b w = untouched (withoutSignal c (b .first)) b w
 byFlag (suc zero) c b w = withSignal c b w
 byFlag (suc (suc zero)) c b w = untouched (notLocked c (unlocked (c .pll)) float.zero) b w
 byFlag (suc (suc (suc zero))) c b w = untouched (notLocked c (unlocked (c .pll)) float.half) b w
 byFlag (suc (suc (suc (suc k)))) c b w = untouched (notLocked c (c .pll) (neg float.five)) b w
 
--- by whether the channel is Idle: not locked, SNR 0, all else as it was
-unfoldable pub byStatus : Bool → Channel → BlockArgs → List Float → Outcome
-byStatus true c b w = untouched (notLocked c (c .pll) float.zero) b w
-byStatus false c b w = byFlag (b .flag) c b w
+-- the step of a block: an Idle channel is not locked, SNR 0, all else as it was; another goes by the flag
+unfoldable pub blockStep : Channel → BlockArgs → List Float → Outcome Channel
+blockStep c b w = cond (idle (c .status)) (untouched (notLocked c (c .pll) float.zero) b w) (byFlag (b .flag) c b w)
 
--- by the refusal number: a refused call gives all back as it was
-unfoldable pub byRefusal : ℕ → Channel → BlockArgs → List Float → Outcome
-byRefusal zero c b w = byStatus (idle (c .status)) c b w
-byRefusal (suc k) c b w =
-    record { answer = refusedAnswer (suc k); channel = c; first = b .first; second = b .second; windows = w }
-
-unfoldable pub blocked : Channel → BlockArgs → List Float → Outcome
-blocked c b w = byRefusal (blockRefusal (c .setup .two) b (length w)) c b w
+-- a refused call gives all back as it was
+unfoldable pub blocked : Channel → BlockArgs → List Float → Outcome Channel
+blocked c b w =
+    let n = blockRefusal (c .setup .two) b (length w) in
+    cond (eqb n 0) (blockStep c b w) (record { answer = refusedAnswer n; channel = c; first = b .first; second = b .second; windows = w })
 
 -- what a call returned and left in the three lent memories, as one outcome
-unfoldable pub outcome : Blocked → List Float → List Float → List Float → Outcome
-outcome r first second windows =
-    record { answer = r .answer; channel = r .channel; first = first; second = second; windows = windows }
+unfoldable pub outcome : Blocked → List Float → List Float → List Float → Outcome Channel
+outcome r first second windows = record { answer = r .answer; channel = r .channel; first = first; second = second; windows = windows }

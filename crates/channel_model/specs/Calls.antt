@@ -15,7 +15,7 @@ use Rattle.channel_model.specs.Releasing.{released}
 use Rattle.channel_model.specs.Figures as twelve
 use Rattle.channel_model.specs.Answers.{refusedAnswer}
 use Rattle.channel_model.specs.Refusals.{BlockArgs, blockRefusal}
-use Rattle.channel_model.specs.Blocks.{blocked}
+use Rattle.channel_model.specs.Blocks.{Outcome, blocked}
 
 -- ---- what a call brings
 
@@ -44,12 +44,9 @@ unfoldable pub noMemory : Memory
 noMemory = record { first = []; second = []; windows = [] }
 
 -- as it stands at entry
-unfoldable pub lentBy : Lend → List Float → Memory
-lentBy (block b) w = record { first = b .first; second = b .second; windows = w }
-
 unfoldable pub memoryOf : Call → Memory
 memoryOf (ask a) = noMemory
-memoryOf (lend l w) = lentBy l w
+memoryOf (lend (block b) w) = record { first = b .first; second = b .second; windows = w }
 
 -- ---- what a call gives back
 
@@ -70,6 +67,12 @@ pub record Result (X : Type 0) : Type 0 where
 abbrev pub told : {X : Type 0} → ℕ → X → Reply → Result X
 told n x r = record { refusal = n; channel = x; reply = r; memory = noMemory }
 
+-- of a block, from its outcome
+abbrev pub replied : {X : Type 0} → Outcome X → Result X
+replied o =
+    let m : Memory = record { first = o .first; second = o .second; windows = o .windows } in
+    record { refusal = o .answer .refusal; channel = o .channel; reply = answered (o .answer); memory = m }
+
 -- open and the calls, on channels of a type X
 pub record Interface (X : Type 0) : Type 0 where
   pub opens : Settings → Result X
@@ -78,24 +81,11 @@ pub record Interface (X : Type 0) : Type 0 where
 -- ---- the channel's own
 
 -- figures gives back the channel as it was
-unfoldable pub asked : Channel → Ask → Result Channel
-asked c (assign a) = told (assigned c a .refusal) (assigned c a .channel) nothing
-asked c release = told 0 (released c) nothing
-asked c figures = told 0 c (shown (twelve.figures c))
-
-unfoldable pub lent : Channel → Lend → List Float → Result Channel
-lent c (block b) w =
-    let o = blocked c b w in
-    record {
-      refusal = o .answer .refusal;
-      channel = o .channel;
-      reply = answered (o .answer);
-      memory = record { first = o .first; second = o .second; windows = o .windows };
-    }
-
 unfoldable pub called : Channel → Call → Result Channel
-called c (ask a) = asked c a
-called c (lend l w) = lent c l w
+called c (ask (assign a)) = told (assigned c a .refusal) (assigned c a .channel) nothing
+called c (ask release) = told 0 (released c) nothing
+called c (ask figures) = told 0 c (shown (twelve.figures c))
+called c (lend (block b) w) = replied (blocked c b w)
 
 unfoldable pub model : Interface Channel
 model = record { opens = λ s. told (opened s .refusal) (opened s .channel) nothing; calls = called }
@@ -103,17 +93,11 @@ model = record { opens = λ s. told (opened s .refusal) (opened s .channel) noth
 -- ---- what a call is refused for
 
 -- the number of the first cause in the scope's table, 0 where there is none. "Release and figures are never refused."
-unfoldable pub askRefusal : Channel → Ask → ℕ
-askRefusal c (assign a) = assignRefusal a (c .status)
-askRefusal c release = 0
-askRefusal c figures = 0
-
-unfoldable pub lendRefusal : Channel → Lend → List Float → ℕ
-lendRefusal c (block b) w = blockRefusal (c .setup .two) b (length w)
-
 unfoldable pub refusalOf : Channel → Call → ℕ
-refusalOf c (ask a) = askRefusal c a
-refusalOf c (lend l w) = lendRefusal c l w
+refusalOf c (ask (assign a)) = assignRefusal a (c .status)
+refusalOf c (ask release) = 0
+refusalOf c (ask figures) = 0
+refusalOf c (lend (block b) w) = blockRefusal (c .setup .two) b (length w)
 
 -- what a call tells that is refused with this number: a block "other fields 0, tracker 3"
 unfoldable pub refusedReply : ℕ → Call → Reply

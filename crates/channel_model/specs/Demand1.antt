@@ -11,15 +11,15 @@ use Rattle.channel_model.specs.Opening.{openRefusal, newChannel, refused
 use Rattle.channel_model.specs.Calls.{Call, Interface, memoryOf, model, refusalOf, refusedReply}
 
 -- The claim about open and the calls of m: number says what each call is refused for on a channel, 0 for nothing; idle is the channel that a refused open
--- returns; Held says which channels a caller may hold.
-pub record Refuses {X : Type 0} (m : Interface X) (number : X → Call → ℕ) (idle : X) (Held : X → Type 0) : Type 0 where
+-- returns; Sound says which channels a caller may hold.
+pub record Refuses {X : Type 0} (m : Interface X) (number : X → Call → ℕ) (idle : X) (Sound : X → Type 0) : Type 0 where
   -- "Refused, by a number from a fixed table, is every setting outside its limits", and every other open is accepted, which is number 0
   pub openNames : (s : Settings) → m .opens s .refusal ≡ openRefusal s
   pub openReturns : (s : Settings) → openRefusal s ≢ 0 → m .opens s .channel ≡ idle
   -- so is every call that has a cause in the table, "every call out of turn, every block of a wrong length ..."; "Every other call is accepted"
   pub names : (x : X) (c : Call) → m .calls x c .refusal ≡ number x c
   -- "A refused call gives the channel back as it was"
-  pub returns : (x : X) (c : Call) → Held x → number x c ≢ 0 → m .calls x c .channel ≡ x
+  pub returns : (x : X) (c : Call) → Sound x → number x c ≢ 0 → m .calls x c .channel ≡ x
   -- "and changes no lent memory"
   pub leaves : (x : X) (c : Call) → number x c ≢ 0 → m .calls x c .memory ≡ memoryOf c
   -- and tells what the table says

@@ -1,7 +1,8 @@
 -- Open (the scope, module 9; refusals 1 to 4). Definitions only.
 use Prim.Native.Nat.{ℕ, zero, suc, _*_}
 use mathlib.Core.Bool.{Bool, false, cond, not, _&&_, _||_}
-use lib.Dec.{leb, ltb}
+use mathlib.Core.List.{[], _∷_}
+use lib.Dec.{leb, ltb, eqb}
 use lib.IntN.{pos}
 use lib.Ieee.{Float, binary64, ofInt, le, toUnsigned}
 use Rattle.ieee754.specs.Binary32 as float32
@@ -20,6 +21,7 @@ use Rattle.channel_model.specs.declared.Carriers.{Carriers}
 use Rattle.channel_model.specs.declared.Channel.{Channel}
 use Rattle.channel_model.specs.declared.Returned.{Returned}
 use Rattle.channel_model.specs.Values.{channelOf}
+use Rattle.channel_model.specs.Refusals.{firstCause}
 
 -- ---- refusals
 
@@ -31,13 +33,8 @@ badRate rate factor = not (leb 1 factor && leb factor 4096) || not (leb (1000 * 
 unfoldable pub badRatio : Float → Bool
 badRatio r = not (le float.quarter r && le r float.four)
 
--- in the order of their numbers; 0 where none holds
 unfoldable pub openRefusal : Settings → ℕ
-openRefusal s =
-    cond (badRate (s .rate) (s .factor)) 1
-    (cond (ltb 2 (s .modulation)) 2
-    (cond (ltb 86400 (s .fade)) 3
-    (cond (badRatio (s .ratio)) 4 0)))
+openRefusal s = firstCause ((1, badRate (s .rate) (s .factor)) ∷ (2, ltb 2 (s .modulation)) ∷ (3, ltb 86400 (s .fade)) ∷ (4, badRatio (s .ratio)) ∷ [])
 
 -- ---- the channel that is opened
 
@@ -85,23 +82,7 @@ newChannel s = let h = newTracker s in idleChannel (newSetup s) noCarriers float
 
 -- "an idle carrier channel: 1,000 Hz, factor 1, switches off, fade 0, ratio 1"
 unfoldable pub refusedSettings : Settings
-refusedSettings =
-    record {
-      rate = 1000;
-      factor = 1;
-      modulation = 0;
-      adaptive = false;
-      «dual_lock» = false;
-      bank = false;
-      two = false;
-      fade = 0;
-      ratio = one;
-    }
-
--- by the refusal number
-unfoldable pub openedBy : ℕ → Settings → Returned
-openedBy zero s = record { refusal = 0; channel = newChannel s }
-openedBy (suc k) s = record { refusal = suc k; channel = newChannel refusedSettings }
+refusedSettings = record { rate = 1000; factor = 1; modulation = 0; adaptive = false; «dual_lock» = false; bank = false; two = false; fade = 0; ratio = one }
 
 unfoldable pub opened : Settings → Returned
-opened s = openedBy (openRefusal s) s
+opened s = let n = openRefusal s in record { refusal = n; channel = newChannel (cond (eqb n 0) s refusedSettings) }

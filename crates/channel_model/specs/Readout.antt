@@ -29,9 +29,4 @@ electronsOf true a t old = electronContent (a .target) (a .target2) (el (t .x) 0
 -- all that the tracker t shows
 unfoldable pub readFrom : Bool → Float → Carriers → CarrierPllEkf → Reading → Reading
 readFrom two k a t r =
-    record {
-      phase = phaseAt k t;
-      frequency = frequencyAt two k a (a .target) t;
-      snr = r .snr;
-      electrons = electronsOf two a t (r .electrons);
-    }
+    record { phase = phaseAt k t; frequency = frequencyAt two k a (a .target) t; snr = r .snr; electrons = electronsOf two a t (r .electrons) }

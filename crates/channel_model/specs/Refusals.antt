@@ -1,11 +1,16 @@
--- The refusals of a block, 7 to 12 (the scope, "Causes of refusal"), checked in the order of their numbers, each over both lists. Definitions only.
+-- Refusals (the scope, "Causes of refusal": "Checked in the order of their numbers"), and those of a block, 7 to 12, each over both lists. Definitions only.
 use Prim.Native.Nat.{ℕ, _%_}
 use mathlib.Core.Bool.{Bool, cond, not, _&&_, _||_}
-use mathlib.Core.List.{List}
+use mathlib.Core.List.{List, [], _∷_}
 use lib.Dec.{ltb, eqb}
 use lib.ListN.{length}
 use lib.Ieee.{Float}
 use Rattle.channel_samples.specs.Limits.{allInRange}
+
+-- the number of the first cause that holds, 0 where none does
+unfoldable pub firstCause : List (ℕ × Bool) → ℕ
+firstCause [] = 0
+firstCause ((number, holds) ∷ rest) = cond holds number (firstCause rest)
 
 -- what a block call brings besides the window memory: the flag and the two lists, as they stand at entry
 pub record BlockArgs : Type 0 where
@@ -14,23 +19,17 @@ pub record BlockArgs : Type 0 where
   pub second : List Float
 
 -- 8: "a list of odd length or over 4,096 pairs"
-unfoldable pub badLength : ℕ → Bool
-badLength n = eqb (n % 2) 1 || ltb 8192 n
+unfoldable pub badLength : List Float → Bool
+badLength l = eqb (length l % 2) 1 || ltb 8192 (length l)
 
--- 10: "second list unlike the first in length (two frequencies), or not empty (one)"
-unfoldable pub badSecond : Bool → ℕ → ℕ → Bool
-badSecond two n m = cond two (not (eqb m n)) (not (eqb m 0))
-
--- by the lengths n and m of the lists, of which inRange says whether all components are, and the length of the window memory; 0 where none holds
-unfoldable pub refusalBy : ℕ → Bool → ℕ → ℕ → Bool → ℕ → ℕ
-refusalBy flag two n m inRange size =
-    cond (ltb 4 flag) 7
-    (cond (badLength n || badLength m) 8
-    (cond (ltb 1 flag && ltb 0 n) 9
-    (cond (badSecond two n m) 10
-    (cond (not inRange) 11
-    (cond (eqb size 8192) 0 12)))))
-
+-- with the length of the window memory. 10: "second list unlike the first in length (two frequencies), or not empty (one)"
 unfoldable pub blockRefusal : Bool → BlockArgs → ℕ → ℕ
 blockRefusal two b size =
-    refusalBy (b .flag) two (length (b .first)) (length (b .second)) (allInRange (b .first) && allInRange (b .second)) size
+    firstCause
+    ((7, ltb 4 (b .flag))
+    ∷ (8, badLength (b .first) || badLength (b .second))
+    ∷ (9, ltb 1 (b .flag) && ltb 0 (length (b .first)))
+    ∷ (10, not (eqb (length (b .second)) (cond two (length (b .first)) 0)))
+    ∷ (11, not (allInRange (b .first) && allInRange (b .second)))
+    ∷ (12, not (eqb size 8192))
+    ∷ [])

@@ -1,6 +1,6 @@
 -- The start of the trackers in a flag 1 block (the scope, module 9; the source's bootstrap). Definitions only.
 use Prim.Native.Nat.{ℕ, _*_}
-use mathlib.Core.Bool.{Bool, true, false, not, _&&_, _||_}
+use mathlib.Core.Bool.{Bool, true, false, cond, not, _&&_, _||_}
 use mathlib.Core.List.{List}
 use lib.ListN.{take}
 use lib.Ieee.{Float, binary64, lt, toUnsigned}
@@ -12,12 +12,11 @@ use Rattle.tracker_measurement.specs.declared.modulation.Modulation.{Modulation
 use Rattle.tracker_measurement.specs.declared.modulation.Modulation.the-variants.{Carrier, Bpsk, Qpsk}
 use Rattle.tracker.specs.declared.state.Tracked.{Tracked}
 use Rattle.tracker.specs.State.{resetTo}
-use Rattle.bank_model.specs.Values.{withTrackers}
 use Rattle.estimate_correlation.specs.Correlation.{prepared}
 use Rattle.estimate_esprit.specs.Esprit.{estimate}
 use Rattle.channel_model.specs.declared.Setup.{Setup}
 use Rattle.channel_model.specs.declared.Channel.{Channel}
-use Rattle.channel_model.specs.Values.{withAll}
+use Rattle.channel_model.specs.Values.{withAll, onEach}
 use Rattle.channel_model.specs.Opening.{decimatedRate}
 
 -- `pll_tracker` is not locked, and the channel never was or the last SNR was below 0
@@ -42,25 +41,13 @@ startFrequency m k l = estimate (prepared (squares m) (take (2 * chunk k) l)) (d
 unfoldable pub restarted : Float → Tracked → Tracked
 restarted hz h = resetTo (h .ekf) float.zero hz float.zero
 
-unfoldable pub restartedIf : Bool → Float → Tracked → Tracked
-restartedIf true hz h = restarted hz h
-restartedIf false hz h = h
-
 -- a tracker of the bank starts where it is not locked
 unfoldable pub startedUnlocked : Float → Tracked → Tracked
-startedUnlocked hz h = restartedIf (not (h .ekf .«is_locked»)) hz h
+startedUnlocked hz h = cond (h .ekf .«is_locked») h (restarted hz h)
 
 -- `pll_tracker` is reset, and those of the bank that are not locked
 unfoldable pub startedAt : Float → Channel → Channel
-startedAt hz c =
-    withAll c (restarted hz (c .pll))
-    (withTrackers (c .bank) (startedUnlocked hz (c .bank .t0)) (startedUnlocked hz (c .bank .t1)) (startedUnlocked hz (c .bank .t2))
-    (c .bank .«terminated_in_fade»))
-
--- by whether the channel starts
-unfoldable pub startedBy : Bool → Channel → List Float → Channel
-startedBy true c l = startedAt (startFrequency (c .pll .ekf .modulation) (c .setup) l) c
-startedBy false c l = c
+startedAt hz c = withAll c (restarted hz (c .pll)) (onEach (startedUnlocked hz) (c .bank))
 
 unfoldable pub started : Channel → List Float → Channel
-started c l = startedBy (starts c) c l
+started c l = cond (starts c) (startedAt (startFrequency (c .pll .ekf .modulation) (c .setup) l) c) c

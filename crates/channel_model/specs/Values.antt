@@ -14,17 +14,7 @@ use Rattle.channel_model.specs.declared.Reading.{Reading}
 -- a channel from its parts: setup, status, carriers, `pll_tracker`, bank, whether it was ever locked, the remembered SNR, whether it is locked, what is shown
 abbrev pub channelOf : Setup → Status → Carriers → Tracked → EkfTrackingBank → Bool → Float → Bool → Reading → Channel
 channelOf k s a h b ever last locked r =
-    record {
-      setup = k;
-      status = s;
-      carriers = a;
-      pll = h;
-      bank = b;
-      «ever_locked» = ever;
-      «last_snr» = last;
-      «is_locked» = locked;
-      reading = r;
-    }
+    record { setup = k; status = s; carriers = a; pll = h; bank = b; «ever_locked» = ever; «last_snr» = last; «is_locked» = locked; reading = r }
 
 -- trackers, marks and what is shown anew; the setup, the status, the carriers and the remembered SNR stay
 unfoldable pub moved : Channel → Tracked → EkfTrackingBank → Bool → Bool → Reading → Channel
@@ -46,6 +36,6 @@ withElectrons r e = record { phase = r .phase; frequency = r .frequency; snr = r
 unfoldable pub unlocked : Tracked → Tracked
 unlocked h = record { ekf = withLock (h .ekf) (h .ekf .«lock_metric») false (h .ekf .«convergence_guard»); p = h .p }
 
--- a bank's three trackers each unlocked
-unfoldable pub allUnlocked : EkfTrackingBank → EkfTrackingBank
-allUnlocked b = withTrackers b (unlocked (b .t0)) (unlocked (b .t1)) (unlocked (b .t2)) (b .«terminated_in_fade»)
+-- a bank with f of each of its three trackers; its marks stay
+unfoldable pub onEach : (Tracked → Tracked) → EkfTrackingBank → EkfTrackingBank
+onEach f b = withTrackers b (f (b .t0)) (f (b .t1)) (f (b .t2)) (b .«terminated_in_fade»)

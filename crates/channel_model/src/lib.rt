@@ -17,6 +17,7 @@ pub struct Settings {
 }
 
 // What opening settles and no call changes.
+#[repr(C)]
 pub struct Setup {
     pub rate: u64,
     pub factor: u64,
@@ -39,6 +40,7 @@ pub struct Carriers {
 }
 
 // What a block's answer shows of the signal.
+#[repr(C)]
 pub struct Reading {
     pub phase: f64,
     pub frequency: f64,

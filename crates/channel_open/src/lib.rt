@@ -92,9 +92,9 @@ fn new_tracker(s: Settings) -> Tracked
     let t = CarrierPllEkf::new(rate, modulation);
     let mut ekf = t.ekf;
     let p = t.p;
-    ekf.adaptive_ekf = s.adaptive;
-    ekf.dual_lock = s.dual_lock;
-    ekf.frequency_ratio = s.ratio;
+    ekf.tuning.adaptive_ekf = s.adaptive;
+    ekf.tuning.dual_lock = s.dual_lock;
+    ekf.tuning.frequency_ratio = s.ratio;
     Tracked { ekf, p }
 }
 

@@ -9,7 +9,8 @@ use lib.IntN.{pos}
 use lib.Ieee.{Float, nan, inf, fin, up, down, below, level, ofBits, neg, lt, le, eq}
 use lib.Ieee.Fits.{down-pos}
 use Rattle.ieee754.specs.Sign.{absolute}
-use Rattle.channel_samples.specs.Limits.{largest, inRange}
+use Rattle.ieee754.specs.Binary32.{twoTo10}
+use Rattle.channel_samples.specs.Limits.{inRange}
 
 abbrev high : Float
 high = fin false 1 (pos 10)
@@ -17,11 +18,11 @@ high = fin false 1 (pos 10)
 abbrev low : Float
 low = fin true 1 (pos 10)
 
-high-is : largest ≡ high
+high-is : twoTo10 ≡ high
 unfolding ofBits
 high-is = refl
 
-low-is : neg largest ≡ low
+low-is : neg twoTo10 ≡ low
 unfolding neg ofBits
 low-is = refl
 
@@ -54,6 +55,6 @@ between (inf false) = refl
 between (fin false m e) = positive (1 * 1024 * down e) (m * up e * 1) (limit (down e) (down-pos e))
 between (fin true m e) = negative (1 * 1024 * down e) (m * up e * 1) (limit (down e) (down-pos e))
 
-pub range-test : (x : Float) → (le (neg largest) x && le x largest) ≡ inRange x
+pub range-test : (x : Float) → (le (neg twoTo10) x && le x twoTo10) ≡ inRange x
 unfolding inRange
 range-test x = rw (low-is, high-is) (between x)

@@ -6,12 +6,9 @@ use Rattle.ieee754.specs.Binary32.{twoTo10}
 use Rattle.ieee754.specs.Sign.{absolute}
 use Rattle.sequences.specs.Folds.{every}
 
-abbrev pub largest : Float
-largest = twoTo10
-
 -- at most 1,024 in size; a NaN and the infinities are not
 unfoldable pub inRange : Float → Bool
-inRange x = le (absolute x) largest
+inRange x = le (absolute x) twoTo10
 
 unfoldable pub allInRange : List Float → Bool
 allInRange xs = every inRange xs

@@ -77,8 +77,8 @@ fn with_value(t: CarrierPllEkf, letter: u8, v: f64) -> CarrierPllEkf {
         b'M' => u.lock_metric = v,
         b'G' => u.convergence_guard = to_usize(v),
         b'Q' => {
-            u.pr_sum_abs_i = v;
-            u.pr_sum_q_sq = v;
+            u.power.sum_abs_i = v;
+            u.power.sum_q_sq = v;
         }
         _ => {
             let x = [0.0, 6.283185307179586 * v, 0.0, 0.0, 0.0, 0.0];

@@ -1,7 +1,10 @@
 // A block with a signal on an assigned channel.
 ghost use mathlib.Core.Path.{_≡_};
+ghost use mathlib.Core.Bool.{cond};
 ghost use lib.ListN.{length};
+ghost use Rattle.channel_samples.specs.Normalisation.{normalised};
 ghost use Rattle.channel_model.specs.Blocks as model;
+ghost use Rattle.channel_model.specs.Code.SignalStep.{trackedOver};
 use crate::track::follow;
 use crate::track::show;
 use channel_acquisition::started;
@@ -14,7 +17,7 @@ use estimate_snr::estimate_snr;
 
 // The second list is normalised with two frequencies.
 fn normalise_second(two: bool, second: &mut [f32])
-    ensures { λ _. ⌜ now (second .exit) ≡ model.secondNormalised two (now (second .entry)) ⌝ }
+    ensures { λ _. ⌜ now (second .exit) ≡ cond two (normalised (now (second .entry))) (now (second .entry)) ⌝ }
 {
     if two {
         normalise(second);
@@ -24,7 +27,7 @@ fn normalise_second(two: bool, second: &mut [f32])
 // The started trackers over the normalised lists, and what they show then.
 fn track_over(snr: f64, c: Channel, first: &[f32], second: &[f32], windows: &mut [f64]) -> Blocked
     requires { ⌜ length (now windows) ≡ 8192 ⌝ }
-    ensures { λ r. ⌜ model.outcome r (now (first .entry)) (now (second .entry)) (now (windows .exit)) ≡ model.trackedOver snr c (now (first .entry)) (now (second .entry)) (now (windows .entry)) ⌝ }
+    ensures { λ r. ⌜ model.outcome r (now (first .entry)) (now (second .entry)) (now (windows .exit)) ≡ trackedOver snr c (now (first .entry)) (now (second .entry)) (now (windows .entry)) ⌝ }
 {
     let followed = follow(c, first, second, windows);
     let shown = show(followed);

@@ -53,7 +53,7 @@ fn scale_for(c: Channel) -> f64
 
 // Without a bank: a locked `pll_tracker` is read, of another the phase alone.
 fn show_single(c: Channel) -> Channel
-    ensures { λ r. ⌜ r ≡ model.singleShownBy (c .pll .ekf .«is_locked») c ⌝ }
+    ensures { λ r. ⌜ r ≡ model.singleShown c ⌝ }
 {
     let t = c.pll.ekf;
     let carriers = c.carriers;
@@ -100,7 +100,7 @@ fn show_bank(b: EkfTrackingBank, c: Channel) -> Channel
 
 // What the trackers show after a block's samples.
 pub fn show(c: Channel) -> Channel
-    ensures { λ r. ⌜ r ≡ model.shownBy (c .setup .bank) c ⌝ }
+    ensures { λ r. ⌜ r ≡ model.withShown c ⌝ }
 {
     if c.setup.bank {
         let k = scale_for(c);

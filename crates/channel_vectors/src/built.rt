@@ -28,20 +28,24 @@ fn next_covariance(new: [f64; 36]) -> [f64; 36] {
 fn next_tracker(rate: f64, m: Modulation) -> Tracked {
     let new = CarrierPllEkf::new(rate, m);
     let mut t = new.ekf;
+    let mut tuning = t.tuning;
+    let mut power = t.power;
     let x = next_six();
     t.x = x;
     let start = new.p;
     let p = next_covariance(start);
     t.lock_metric = next_f64();
     t.envelope_ema = next_f64();
-    t.pr_sum_abs_i = next_f64();
-    t.pr_sum_q_sq = next_f64();
-    t.frequency_ratio = next_f64();
-    t.pr_pushed = next_whole() as usize;
+    power.sum_abs_i = next_f64();
+    power.sum_q_sq = next_f64();
+    tuning.frequency_ratio = next_f64();
+    power.pushed = next_whole() as usize;
     t.convergence_guard = next_whole() as usize;
     t.is_locked = next_mark();
-    t.adaptive_ekf = next_mark();
-    t.dual_lock = next_mark();
+    tuning.adaptive_ekf = next_mark();
+    tuning.dual_lock = next_mark();
+    t.tuning = tuning;
+    t.power = power;
     Tracked { ekf: t, p }
 }
 

@@ -19,16 +19,16 @@ fn word_of(h: Tracked) -> u64 {
     let mut sum = mix_all(0, &x);
     sum = mix_all(sum, &p);
     sum = mix(sum, h.ekf.envelope_ema);
-    sum = mix(sum, h.ekf.pr_sum_abs_i);
-    sum = mix(sum, h.ekf.pr_sum_q_sq);
-    sum = mix(sum, h.ekf.ts);
-    mix(sum, h.ekf.frequency_ratio)
+    sum = mix(sum, h.ekf.power.sum_abs_i);
+    sum = mix(sum, h.ekf.power.sum_q_sq);
+    sum = mix(sum, h.ekf.tuning.ts);
+    mix(sum, h.ekf.tuning.frequency_ratio)
 }
 
 fn tracker_is_next(h: Tracked) -> bool {
     let locked = is_next_mark(h.ekf.is_locked);
     let metric = is_next(h.ekf.lock_metric);
-    let pushed = is_next_whole(h.ekf.pr_pushed as u64);
+    let pushed = is_next_whole(h.ekf.power.pushed as u64);
     let guard = is_next_whole(h.ekf.convergence_guard as u64);
     let word = word_of(h);
     let rest = is_next_whole(word);

@@ -10,15 +10,16 @@ use lib.Ieee.{Float, nan, inf, fin, binary64, lt, le, fits, ofBits}
 use lib.Ieee.Bits.{is-true, is-false}
 use lib.Ieee.Fits.{up-pos}
 use lib.Ieee.Positive.{num, den, den-pos, positive, le→cross, cross→le}
-use Rattle.elementary_fixed_point.specs.Fraction.{sum, negated}
+use Rattle.elementary_fixed_point.specs.Fraction.{sum, negated, times}
 use Rattle.elementary_fixed_point.specs.Ratio.{ratio}
 use Rattle.elementary_fixed_point.specs.Code.Bounds.{nonnegative, Proper, Approximates, Enclosure}
 use Rattle.elementary_fixed_point.proofs.Enclosures.{enclosure-finer, enclosure-widen}
 use Rattle.elementary_fixed_point.proofs.FromFloat.{enclosed-upto}
 use Rattle.elementary_fixed_point.proofs.RatioBound.{ratio-near, ratio-upto}
 use Rattle.elementary_fixed_point.proofs.Approximations.{approximates-more, approximates-sum, approximates-difference}
-use Rattle.elementary_arctangent.specs.Angle.{taylor, uptoOne, quarterTurn, halfTurn, A, upperHalf}
-use Rattle.elementary_arctangent.specs.Steps.{series, second, uptoHalf, angleOfHalf, rightAngle, straightAngle, firstOctant, firstQuadrant}
+use Rattle.elementary_arctangent.specs.Angle.{taylor, uptoOne, A, upperHalf, eighthTurn}
+use Rattle.elementary_arctangent.specs.Steps.{series, second, angleOfHalf, rightAngle, straightAngle, firstOctant, firstQuadrant}
+use Rattle.elementary_arctangent.specs.Code.Tests.{uptoHalf}
 use Rattle.elementary_arctangent.proofs.Tables.{angle-of-half-is, right-angle-is, straight-angle-is, angle-of-half-near, right-angle-near, straight-angle-near}
 use Rattle.elementary_arctangent.proofs.SeriesBound.{e, series-le, series-near}
 use Rattle.elementary_arctangent.proofs.Doubling.{doubled-upto, doubled-above}
@@ -181,13 +182,13 @@ module _ (a b : Float) (pa : T (positive a)) (pb : T (positive b)) where
         k : ℕ
         k = num b * den a
 
-        go : (c : Bool) → (T c → T (le a b)) → (T (not c) → T (not (le a b))) → Approximates (2 ^ 62) (cond c (firstOctant a b) (rightAngle - firstOctant b a)) 1795922 (cond (leb m k) (uptoOne m k) (sum quarterTurn (negated (uptoOne k m))))
+        go : (c : Bool) → (T c → T (le a b)) → (T (not c) → T (not (le a b))) → Approximates (2 ^ 62) (cond c (firstOctant a b) (rightAngle - firstOctant b a)) 1795922 (cond (leb m k) (uptoOne m k) (sum (times 2 eighthTurn) (negated (uptoOne k m))))
         go true f g =
-            subst (λ (c : Bool). Approximates (2 ^ 62) (firstOctant a b) 1795922 (cond c (uptoOne m k) (sum quarterTurn (negated (uptoOne k m))))) (sym (le-leb m k (proper-yes (f tt) .upto)))
+            subst (λ (c : Bool). Approximates (2 ^ 62) (firstOctant a b) 1795922 (cond c (uptoOne m k) (sum (times 2 eighthTurn) (negated (uptoOne k m))))) (sym (le-leb m k (proper-yes (f tt) .upto)))
             (approximates-more (2 ^ 62) (firstOctant a b) 1795921 1795922 (uptoOne m k) (lit≤ tt) (octant-near a b (proper-yes (f tt)) fa fb))
         go false f g =
-            subst (λ (c : Bool). Approximates (2 ^ 62) (rightAngle - firstOctant b a) 1795922 (cond c (uptoOne m k) (sum quarterTurn (negated (uptoOne k m))))) (sym (lt-leb m k (swapped (g tt))))
-            (approximates-difference (2 ^ 62) rightAngle 1 quarterTurn (firstOctant b a) 1795921 (uptoOne k m) (octant-le b a (proper-no (g tt)) fb fa) right-angle-near (octant-near b a (proper-no (g tt)) fb fa))
+            subst (λ (c : Bool). Approximates (2 ^ 62) (rightAngle - firstOctant b a) 1795922 (cond c (uptoOne m k) (sum (times 2 eighthTurn) (negated (uptoOne k m))))) (sym (lt-leb m k (swapped (g tt))))
+            (approximates-difference (2 ^ 62) rightAngle 1 (times 2 eighthTurn) (firstOctant b a) 1795921 (uptoOne k m) (octant-le b a (proper-no (g tt)) fb fa) right-angle-near (octant-near b a (proper-no (g tt)) fb fa))
 
 -- ---- the left side
 pub turned-le : (left : Bool) (s : ℕ) → s ≤ rightAngle → cond left (straightAngle - s) s ≤ straightAngle
@@ -202,5 +203,5 @@ turned-le false s h = le-trans h right-below
 
 pub turned-near : (left : Bool) (s n d : ℕ) → s ≤ rightAngle → Approximates (2 ^ 62) s 1795922 (A n d) → Approximates (2 ^ 62) (cond left (straightAngle - s) s) 1795923 (upperHalf left n d)
 unfolding upperHalf
-turned-near true s n d h w = approximates-difference (2 ^ 62) straightAngle 1 halfTurn s 1795922 (A n d) (turned-le false s h) straight-angle-near w
+turned-near true s n d h w = approximates-difference (2 ^ 62) straightAngle 1 (times 4 eighthTurn) s 1795922 (A n d) (turned-le false s h) straight-angle-near w
 turned-near false s n d h w = approximates-more (2 ^ 62) s 1795922 1795923 (A n d) (lit≤ tt) w

@@ -1,4 +1,4 @@
--- What is promised of atan2 holds of its steps: the special cases one by one, then two finite numbers that are not 0.
+-- What is promised of atan2 holds of its steps: the special cases one by one, then two finite numbers that are not 0. The code's tests come to the same.
 use mathlib.Core.Path.{_≡_, refl, sym, ap, _∙_, subst}
 use mathlib.Core.Bool.{Bool, true, false, not, cond, _&&_, true≢false}
 use Prim.Native.Nat.{ℕ, zero, suc, _-_, _*_, _^_, _≤_, _<_, zero-le}
@@ -19,8 +19,10 @@ use Rattle.elementary_fixed_point.specs.Code.Bounds.{Approximates}
 use Rattle.elementary_fixed_point.proofs.Approximations.{approximates-more}
 use Rattle.elementary_fixed_point.proofs.ToFloat.{Scaled, scaled-near, near-neg, near-scaled}
 use Rattle.elementary_arctangent.specs.Angle.{A, upperHalf, quadrant}
-use Rattle.elementary_arctangent.specs.Promise.{special, Arctangent}
-use Rattle.elementary_arctangent.specs.Steps.{straightAngle, firstQuadrant, isSmall, regularAngle, infinity, upperAngle, atan2Of}
+use Rattle.elementary_arctangent.specs.Promise.{Arctangent}
+use Rattle.elementary_arctangent.specs.Steps.{straightAngle, firstQuadrant, regularAngle, atan2Of}
+use Rattle.elementary_arctangent.specs.SpecialCases.{special}
+use Rattle.elementary_arctangent.specs.Code.Tests.{isSmall, upperAngle, atan2ByTests}
 use Rattle.elementary_arctangent.proofs.Tables.{straight-angle-is}
 use Rattle.elementary_arctangent.proofs.AngleBound.{quadrant-le, quadrant-near, turned-le, turned-near}
 use Rattle.elementary_arctangent.proofs.SmallQuotient.{zero-angle, quotient-value, quotient-near, small-below, small-upto}
@@ -124,7 +126,7 @@ zero-no m e = is-false (eqb (suc m * up e * 1) (0 * 1 * down e) && true) (not-T 
     none : suc m * up e * 1 ≡ 0 * 1 * down e → ⊥
     none h = lt-irrefl 0 (subst (λ (z : ℕ). 0 < z) (sym (mul-one (suc m * up e)) ∙ h ∙ zero-mul (down e)) (mul-pos (zero-lt-suc m) (up-pos e)))
 
-finite-no : (m : ℕ) (e : ℤ) → eq (fin false m e) infinity ≡ false
+finite-no : (m : ℕ) (e : ℤ) → eq (fin false m e) (inf false) ≡ false
 unfolding eq
 finite-no m e = refl
 
@@ -136,7 +138,7 @@ upper-zero : (left : Bool) (e : ℤ) (b : Float) → upperAngle left (fin false 
 unfolding upperAngle
 upper-zero left e b = simp (zero-yes e) refl
 
-upper-far : (left : Bool) (m : ℕ) (e : ℤ) → upperAngle left (fin false m e) infinity ≡ cond left pi plusZero
+upper-far : (left : Bool) (m : ℕ) (e : ℤ) → upperAngle left (fin false m e) (inf false) ≡ cond left pi plusZero
 unfolding upperAngle eq
 upper-far left m e = same (eq (fin false m e) plusZero) (cond left pi plusZero)
 
@@ -144,9 +146,24 @@ upper-high : (left : Bool) (m : ℕ) (e d : ℤ) → upperAngle left (fin false 
 unfolding upperAngle
 upper-high left m e d = simp (zero-no m e, finite-no 0 d, finite-no (suc m) e, zero-yes d) refl
 
-pub upper-regular : (left : Bool) (m : ℕ) (e : ℤ) (n : ℕ) (d : ℤ) → upperAngle left (fin false (suc m) e) (fin false (suc n) d) ≡ regularAngle left (fin false (suc m) e) (fin false (suc n) d)
+upper-regular : (left : Bool) (m : ℕ) (e : ℤ) (n : ℕ) (d : ℤ) → upperAngle left (fin false (suc m) e) (fin false (suc n) d) ≡ regularAngle left (fin false (suc m) e) (fin false (suc n) d)
 unfolding upperAngle
 upper-regular left m e n d = simp (zero-no m e, finite-no (suc n) d, finite-no (suc m) e, zero-no n d) refl
+
+pub by-tests : (y x : Float) → atan2Of y x ≡ atan2ByTests y x
+unfolding atan2Of atan2ByTests special isNan absolute upperAngle eq
+by-tests nan x = refl
+by-tests (inf s) nan = refl
+by-tests (fin s m e) nan = refl
+by-tests (inf s) (inf true) = refl
+by-tests (inf s) (inf false) = refl
+by-tests (inf s) (fin t n d) = refl
+by-tests (fin s m e) (inf true) = ap (signed s) (sym (upper-far true m e))
+by-tests (fin s m e) (inf false) = ap (signed s) (sym (upper-far false m e))
+by-tests (fin s zero e) (fin true n d) = ap (signed s) (sym (upper-zero true e (fin false n d)))
+by-tests (fin s zero e) (fin false n d) = ap (signed s) (sym (upper-zero false e (fin false n d)))
+by-tests (fin s (suc m) e) (fin t zero d) = ap (signed s) (sym (upper-high t m e d))
+by-tests (fin s (suc m) e) (fin t (suc n) d) = ap (signed s) (sym (upper-regular t m e n d))
 
 -- ---- the promise
 
@@ -177,37 +194,35 @@ nothing y x e never = record {
   near = λ p q z. absurd (never p q);
 }
 
-finite-case : (s : Bool) (m : ℕ) (e : ℤ) (t : Bool) (n : ℕ) (d : ℤ) → T (fits binary64 (fin s m e)) → T (fits binary64 (fin t n d)) → Arctangent (fin s m e) (fin t n d) (signed s (upperAngle t (fin false m e) (fin false n d)))
-unfolding special fits
-finite-case s zero e t n d fa fb = subst (λ (w : Float). Arctangent (fin s 0 e) (fin t n d) (signed s w)) (sym (upper-zero t e (fin false n d))) (go t)
+finite-case : (s : Bool) (m : ℕ) (e : ℤ) (t : Bool) (n : ℕ) (d : ℤ) → T (fits binary64 (fin s m e)) → T (fits binary64 (fin t n d)) → Arctangent (fin s m e) (fin t n d) (atan2Of (fin s m e) (fin t n d))
+unfolding atan2Of special absolute fits
+finite-case s zero e t n d fa fb = go t
   where
     near : (t : Bool) → T true → T true → 0 < n * up d → Near 40 (cond t pi plusZero) (upperHalf t (0 * up e * down d) (n * up d * down e))
     near t p q z = zero-good t (0 * up e * down d) (n * up d * down e) (ap (λ (k : ℕ). k * down d) (zero-mul (up e)) ∙ zero-mul (down d)) .near
 
-    go : (t : Bool) → Arctangent (fin s 0 e) (fin t n d) (signed s (cond t pi plusZero))
+    go : (t : Bool) → Arctangent (fin s 0 e) (fin t n d) (atan2Of (fin s 0 e) (fin t n d))
     go true = with (fin s 0 e) (fin true n d) pi (pi-range true) refl (near true)
     go false = with (fin s 0 e) (fin false n d) plusZero (pi-range false) refl (near false)
-finite-case s (suc m) e t zero d fa fb =
-    subst (λ (w : Float). Arctangent (fin s (suc m) e) (fin t 0 d) (signed s w)) (sym (upper-high t m e d))
-    (with (fin s (suc m) e) (fin t 0 d) halfPi half-range refl (λ p q z. absurd (lt-irrefl 0 (subst (λ (k : ℕ). 0 < k) (zero-mul (up d)) z))))
+finite-case s (suc m) e t zero d fa fb = with (fin s (suc m) e) (fin t 0 d) halfPi half-range refl (λ p q z. absurd (lt-irrefl 0 (subst (λ (k : ℕ). 0 < k) (zero-mul (up d)) z)))
 finite-case s (suc m) e t (suc n) d fa fb =
-    let g : Good t (suc m * up e * down d) (suc n * up d * down e) (upperAngle t (fin false (suc m) e) (fin false (suc n) d)) = subst (Good t (suc m * up e * down d) (suc n * up d * down e)) (sym (upper-regular t m e n d)) (regular-good m e n d fa fb t) in
-    with (fin s (suc m) e) (fin t (suc n) d) (upperAngle t (fin false (suc m) e) (fin false (suc n) d)) (g .range) refl (λ p q z. g .near)
+    let g = regular-good m e n d fa fb t in
+    with (fin s (suc m) e) (fin t (suc n) d) (regularAngle t (fin false (suc m) e) (fin false (suc n) d)) (g .range) refl (λ p q z. g .near)
 
 pub promise-holds : (y x : Float) → T (fits binary64 y) → T (fits binary64 x) → Arctangent y x (atan2Of y x)
-unfolding atan2Of special isNan absolute upperAngle eq
+unfolding atan2Of special
 promise-holds nan x fy fx = nothing nan x refl (λ p q. p)
 promise-holds (inf s) nan fy fx = nothing (inf s) nan refl (λ p q. p)
 promise-holds (fin s m e) nan fy fx = nothing (fin s m e) nan refl (λ p q. q)
 promise-holds (inf s) (inf true) fy fx = with (inf s) (inf true) threeQuartersPi (diagonal-range true) refl (λ p q z. absurd p)
 promise-holds (inf s) (inf false) fy fx = with (inf s) (inf false) quarterPi (diagonal-range false) refl (λ p q z. absurd p)
 promise-holds (inf s) (fin t n d) fy fx = with (inf s) (fin t n d) halfPi half-range refl (λ p q z. absurd p)
-promise-holds (fin s m e) (inf true) fy fx = subst (λ (w : Float). Arctangent (fin s m e) (inf true) (signed s w)) (sym (upper-far true m e)) (with (fin s m e) (inf true) pi (pi-range true) refl (λ p q z. absurd q))
-promise-holds (fin s m e) (inf false) fy fx = subst (λ (w : Float). Arctangent (fin s m e) (inf false) (signed s w)) (sym (upper-far false m e)) (with (fin s m e) (inf false) plusZero (pi-range false) refl (λ p q z. absurd q))
+promise-holds (fin s m e) (inf true) fy fx = with (fin s m e) (inf true) pi (pi-range true) refl (λ p q z. absurd q)
+promise-holds (fin s m e) (inf false) fy fx = with (fin s m e) (inf false) plusZero (pi-range false) refl (λ p q z. absurd q)
 promise-holds (fin s m e) (fin t n d) fy fx = finite-case s m e t n d fy fx
 
 -- ---- what the code asks
-pub positive-of : (a : Float) → T (not (isNan a)) → signBit a ≡ false → eq a plusZero ≡ false → eq a infinity ≡ false → T (positive a)
+pub positive-of : (a : Float) → T (not (isNan a)) → signBit a ≡ false → eq a plusZero ≡ false → eq a (inf false) ≡ false → T (positive a)
 unfolding eq isNan
 positive-of nan n s z i = absurd n
 positive-of (inf true) n s z i = absurd (true≢false s)

@@ -6,11 +6,11 @@ use lib.IntN.{ℤ, pos, negsuc}
 use lib.Dec.{T, ltb, eqb}
 use lib.Ieee.{Float, nan, inf, fin, Format, binary64, emax, low, up, down, odd, units, round, neg, mul, div, lt, ofInt, ofBits}
 use lib.Ieee.Positive.{positive}
+use Rattle.elementary_arctangent.specs.Code.Tests.{isSmall}
 use Rattle.ieee754.specs.Binary64.{twoToMinus16}
 use Rattle.ieee754.specs.Sign.{absolute, signBit, signed}
 use Rattle.ieee754_rounding.proofs.Opposites.{neg-round, mul-neg}
 use Rattle.elementary_fixed_point.specs.Conversion.{scaled}
-use Rattle.elementary_arctangent.specs.Steps.{isSmall}
 
 pub scaled-signed : (s : Bool) (d m : ℕ) (e : ℤ) → scaled d (cond s (fin true (suc m) e) (fin false (suc m) e)) ≡ signed s (scaled d (fin false (suc m) e))
 unfolding scaled neg

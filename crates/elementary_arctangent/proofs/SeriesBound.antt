@@ -6,7 +6,7 @@ use native.Mathlib.Nat.{le-refl, le-trans, le-of-eq, lt-of-le-of-lt, le-add-righ
 use native.Mathlib.Omega.{arith}
 use lib.Dec.{T, lit<, lit≤}
 use lib.Pow.{pow-pos}
-use Rattle.elementary_fixed_point.specs.Series.{factorial, term, terms, reciprocal}
+use Rattle.elementary_fixed_point.specs.Series.{factorial, terms, reciprocal}
 use Rattle.elementary_fixed_point.specs.Product.{hi, horner, tabulate}
 use Rattle.elementary_fixed_point.specs.Code.Bounds.{below, Approximates, Enclosure}
 use Rattle.elementary_fixed_point.proofs.Enclosures.{enclosure-is, enclosure-widen, enclosure-power, hi-le, hi-mono}
@@ -15,7 +15,8 @@ use Rattle.elementary_fixed_point.proofs.PowerSums.{pow-one, enclosure-terms}
 use Rattle.elementary_fixed_point.proofs.Tails.{enclosure-longer}
 use Rattle.elementary_fixed_point.proofs.Approximations.{enclosures-approximate}
 use Rattle.elementary_arctangent.specs.Angle.{taylor}
-use Rattle.elementary_arctangent.specs.Steps.{added, subtracted, series}
+use Rattle.elementary_arctangent.specs.Steps.{coefficients, series}
+use Rattle.elementary_arctangent.specs.Code.Tables.{added, subtracted}
 use Rattle.elementary_arctangent.proofs.Tables.{added-rounded, subtracted-rounded, added-below, subtracted-below}
 
 -- the argument's error; its powers' are then 2 e + 2, 3 e + 4 and 4 e + 6
@@ -52,7 +53,7 @@ module _ (x : ℕ) (h : x ≤ 2 ^ 63) where
 
   -- what is taken off is no more than what is added
   pub minus-le : minus-at x ≤ plus-at x
-  unfolding horner below added subtracted tabulate
+  unfolding horner below coefficients tabulate
   minus-le =
       hi-mono (hi x (hi x x)) (horner (fourth x) subtracted) x (horner (fourth x) added) cube-le
       (le-trans (add-le-add (le-refl 1537228672809129301) (rest-le (tail-of subtracted) tt)) (le-trans (lit≤ tt) (le-add-right (2 ^ 62) (hi (horner (fourth x) (tail-of added)) (fourth x)))))
@@ -62,7 +63,7 @@ module _ (x : ℕ) (h : x ≤ 2 ^ 63) where
 
   -- at most 5/8
   pub series-le : series x ≤ 5 * 2 ^ 59
-  unfolding series horner below added tabulate
+  unfolding series horner below coefficients tabulate
   series-le = le-trans (less (plus-at x) (minus-at x)) (hi-mono x (horner (fourth x) added) (2 ^ 63) (2 ^ 62 + 2 ^ 60) h (add-le-add (le-refl (2 ^ 62)) (rest-le (tail-of added) tt)))
     where
       less : (a b : ℕ) → a - b ≤ a
@@ -70,11 +71,11 @@ module _ (x : ℕ) (h : x ≤ 2 ^ 63) where
 
 -- ---- the terms that the tables leave out, at 1/2
 plus-rest : terms (reciprocal 81) 81 4 1 2 12 37 * 2 ^ 62 ≤ 961117 * (factorial 81 * 2 ^ 81)
-unfolding terms term reciprocal factorial
+unfolding terms reciprocal factorial
 plus-rest = lit≤ tt
 
 minus-rest : terms (reciprocal 81) 81 4 1 2 11 39 * 2 ^ 62 ≤ 228026 * (factorial 81 * 2 ^ 81)
-unfolding terms term reciprocal factorial
+unfolding terms reciprocal factorial
 minus-rest = lit≤ tt
 
 -- ---- the sums
@@ -105,14 +106,14 @@ module _ (a b x : ℕ) (bp : 0 < b) (half : a * 2 ≤ b) (xt : x ≤ 2 ^ 63) (ex
 
   -- nine terms in a chain, then the twelve that it leaves out
   plus-near : Enclosure (plus-at x) (plus-at x + 1795920) (taylor a b .plus * 2 ^ 62) (factorial 81 * b ^ 81)
-  unfolding added tabulate
+  unfolding coefficients tabulate
   plus-near =
       enclosure-longer (reciprocal 81) 81 4 a b 1 2 most (factorial 81) 834803 (2 ^ 62) 961117 9 12 1 (lit< tt) (lit≤ tt) plus-rest
       (enclosure-terms (reciprocal 81) (factorial 81) 81 4 a b 1 (fourth x) (4 * e + 6) (lit< tt) (fourth-lt x xt) e4 bp e 1 64 62 62 added xl (lit≤ tt) (lit≤ tt) refl (lit≤ tt) added-below added-rounded e1)
 
   -- and eleven
   minus-near : Enclosure (minus-at x) (minus-at x + 1107953) (taylor a b .minus * 2 ^ 62) (factorial 81 * b ^ 81)
-  unfolding subtracted tabulate
+  unfolding coefficients tabulate
   minus-near =
       enclosure-longer (reciprocal 81) 81 4 a b 1 2 most (factorial 81) 879927 (2 ^ 62) 228026 9 11 3 (lit< tt) (lit≤ tt) minus-rest
       (enclosure-terms (reciprocal 81) (factorial 81) 81 4 a b 1 (fourth x) (4 * e + 6) (lit< tt) (fourth-lt x xt) e4 bp (3 * e + 4) 3 64 62 62 subtracted x3l (lit≤ tt) (lit≤ tt) refl (lit≤ tt) subtracted-below subtracted-rounded e3)

@@ -16,23 +16,23 @@ use lib.Ieee.Order.{transfer, round-mono}
 use lib.Ieee.Scale.{grid, round-val}
 use Rattle.ieee754.specs.Binary64.{pi}
 use Rattle.ieee754_rounding.proofs.RoundingError.{absolute, no-overflow}
-use Rattle.elementary_fixed_point.specs.Series.{factorial, term, terms, reciprocal}
-use Rattle.elementary_fixed_point.specs.Fraction.{Fraction, sum, negated, Near}
+use Rattle.elementary_fixed_point.specs.Series.{factorial, terms, reciprocal}
+use Rattle.elementary_fixed_point.specs.Fraction.{Fraction, sum, negated, Near, times}
 use Rattle.elementary_fixed_point.specs.Code.Bounds.{Approximates}
 use Rattle.elementary_fixed_point.proofs.PowerSums.{pow-one}
 use Rattle.elementary_fixed_point.proofs.Tails.{terms-mono}
 use Rattle.elementary_fixed_point.proofs.PowerOfTwo.{below-top, times-exact}
 use Rattle.elementary_fixed_point.proofs.ToFloat.{near-scaled}
-use Rattle.elementary_arctangent.specs.Angle.{taylor, uptoOne, quarterTurn, A}
+use Rattle.elementary_arctangent.specs.Angle.{taylor, uptoOne, A, eighthTurn}
 use Rattle.elementary_arctangent.proofs.Doubling.{either}
 
 -- ---- the other terms at 2 ^ -16
 later-plus : terms (reciprocal 81) 81 4 1 (2 ^ 16) 20 5 * 2 ^ 48 ≤ factorial 81 * (2 ^ 16) ^ 81
-unfolding terms term reciprocal factorial
+unfolding terms reciprocal factorial
 later-plus = lit≤ tt
 
 later-minus : terms (reciprocal 81) 81 4 1 (2 ^ 16) 20 3 * 2 ^ 48 ≤ factorial 81 * (2 ^ 16) ^ 81
-unfolding terms term reciprocal factorial
+unfolding terms reciprocal factorial
 later-minus = lit≤ tt
 
 first-coefficient : reciprocal 81 1 ≡ factorial 81
@@ -71,7 +71,7 @@ module _ (n d : ℕ) (small : n * 2 ^ 16 ≤ d) where
   first = factorial 81 * (n * d ^ 80)
 
   plus-is : taylor n d .plus ≡ first + rest
-  unfolding terms term first rest
+  unfolding terms first rest
   plus-is = ap (λ (z : ℕ). z + rest) (ap (λ (z : ℕ). z * n ^ 1 * d ^ 80) first-coefficient ∙ ap (λ (z : ℕ). factorial 81 * z * d ^ 80) (pow-one n) ∙ mul-assoc (factorial 81) n (d ^ 80))
 
   over-is : D ≡ factorial 81 * d ^ 80 * d
@@ -122,7 +122,7 @@ module _ (n d : ℕ) (small : n * 2 ^ 16 ≤ d) where
 
   small-is : A n d ≡ taylor n d
   unfolding A uptoOne
-  small-is = ap (λ (c : Bool). cond c (uptoOne n d) (sum quarterTurn (negated (uptoOne d n)))) (le-leb n d (one n d small)) ∙ ap (λ (c : Bool). cond c (taylor n d) (sum (taylor 1 2) (taylor (2 * n - d) (2 * d + n)))) (le-leb (2 * n) d (two n d small))
+  small-is = ap (λ (c : Bool). cond c (uptoOne n d) (sum (times 2 eighthTurn) (negated (uptoOne d n)))) (le-leb n d (one n d small)) ∙ ap (λ (c : Bool). cond c (taylor n d) (sum (taylor 1 2) (taylor (2 * n - d) (2 * d + n)))) (le-leb (2 * n) d (two n d small))
     where
       one : (n d : ℕ) → n * 2 ^ 16 ≤ d → n ≤ d
       one n d h = omega arith

@@ -1,9 +1,11 @@
 -- atan2 is odd in y: atan2(-y, x) is -atan2(y, x), bit for bit.
-use mathlib.Core.Path.{_≡_, refl, sym}
+use mathlib.Core.Path.{_≡_, refl, sym, ap, _∙_}
 use mathlib.Core.Bool.{Bool, true, false, not, cond}
 use lib.Ieee.{Float, nan, inf, fin, neg, isNan}
 use Rattle.ieee754.specs.Sign.{absolute, signBit, signed}
-use Rattle.elementary_arctangent.specs.Steps.{upperAngle, atan2Of}
+use Rattle.elementary_arctangent.specs.Steps.{atan2Of}
+use Rattle.elementary_arctangent.specs.Code.Tests.{upperAngle, atan2ByTests}
+use Rattle.elementary_arctangent.proofs.Cases.{by-tests}
 
 twice : (w : Float) → neg (neg w) ≡ w
 unfolding neg
@@ -23,8 +25,11 @@ unfolding neg
 apart true s w = refl
 apart false s w = other s w
 
+tests-odd : (y x : Float) → atan2ByTests (neg y) x ≡ neg (atan2ByTests y x)
+unfolding atan2ByTests neg isNan absolute
+tests-odd nan x = refl
+tests-odd (inf s) x = apart (isNan x) s (upperAngle (signBit x) (inf false) (absolute x))
+tests-odd (fin s m e) x = apart (isNan x) s (upperAngle (signBit x) (fin false m e) (absolute x))
+
 pub odd-in-y : (y x : Float) → atan2Of (neg y) x ≡ neg (atan2Of y x)
-unfolding atan2Of neg isNan absolute
-odd-in-y nan x = refl
-odd-in-y (inf s) x = apart (isNan x) s (upperAngle (signBit x) (inf false) (absolute x))
-odd-in-y (fin s m e) x = apart (isNan x) s (upperAngle (signBit x) (fin false m e) (absolute x))
+odd-in-y y x = by-tests (neg y) x ∙ tests-odd y x ∙ ap neg (sym (by-tests y x))

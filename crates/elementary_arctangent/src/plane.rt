@@ -6,7 +6,9 @@ ghost use lib.Dec.{T};
 ghost use lib.Ieee.{isNan};
 ghost use lib.Ieee.Positive.{positive};
 ghost use Rattle.ieee754.specs.Sign.{absolute, signBit, signed};
-ghost use Rattle.elementary_arctangent.specs.Steps.{rightAngle, straightAngle, angleUnit, isSmall, regularAngle, upperAngle};
+ghost use Rattle.ieee754.specs.Binary64.{twoToMinus62};
+ghost use Rattle.elementary_arctangent.specs.Steps.{rightAngle, straightAngle, regularAngle};
+ghost use Rattle.elementary_arctangent.specs.Code.Tests.{upperAngle, isSmall};
 use crate::quotient;
 use crate::sign;
 use elementary_fixed_point::conversion;
@@ -30,7 +32,7 @@ fn turned(d: u64, left: bool) -> u64
 // The unit of an angle, 2^-62, with y's sign.
 fn signed_unit(y: f64) -> f64
     requires { ⌜ T (not (isNan y)) ⌝ }
-    ensures { λ r. ⌜ r ≡ signed (signBit y) angleUnit ⌝ }
+    ensures { λ r. ⌜ r ≡ signed (signBit y) twoToMinus62 ⌝ }
 {
     f64::from_bits(0x3c10_0000_0000_0000 + sign::bit(y))
 }

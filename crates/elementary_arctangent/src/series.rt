@@ -2,7 +2,8 @@
 ghost use mathlib.Core.Path.{_≡_};
 ghost use Prim.Native.Nat.{_^_, _<_, _≤_};
 ghost use Rattle.elementary_fixed_point.specs.Product.{horner};
-ghost use Rattle.elementary_arctangent.specs.Steps.{added, subtracted, series};
+ghost use Rattle.elementary_arctangent.specs.Steps.{series};
+ghost use Rattle.elementary_arctangent.specs.Code.Tables.{added, subtracted};
 use elementary_fixed_point::product;
 
 // 2^62 units make 1.

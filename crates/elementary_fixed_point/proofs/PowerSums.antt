@@ -8,7 +8,7 @@ use native.Mathlib.Omega.{arith}
 use lib.Dec.{T, lit<}
 use lib.Pow.{pow-pos, pow-add}
 use lib.ListN.{length}
-use Rattle.elementary_fixed_point.specs.Series.{term, terms}
+use Rattle.elementary_fixed_point.specs.Series.{terms}
 use Rattle.elementary_fixed_point.specs.Product.{hi, horner}
 use Rattle.elementary_fixed_point.specs.Code.Bounds.{below, Enclosure}
 use Rattle.elementary_fixed_point.proofs.Enclosures.{enclosure-cancel, enclosure-times, enclosure-is, enclosure-hi, twos}
@@ -40,7 +40,7 @@ pow-one n = pow-suc n 0 ∙ ap (λ (x : ℕ). x * n) (pow-zero n) ∙ one-mul n
 module _ (k : ℕ → ℕ) (F d q : ℕ) (a b : ℕ) where
   -- the terms are the polynomial times (a / b) ^ j
   link : (n j : ℕ) → j + q * n ≤ d + q → a ^ j * polynomial k q (a ^ q) (b ^ q) n j * b ^ d ≡ terms k d q a b n j * (b ^ j * (b ^ q) ^ n)
-  unfolding polynomial terms term
+  unfolding polynomial terms
   link zero j h = ap (λ (x : ℕ). x * b ^ d) (mul-zero (a ^ j)) ∙ zero-mul (b ^ d) ∙ sym (zero-mul (b ^ j * (b ^ q) ^ 0))
   link (suc n) j h =
       let g : ℕ = polynomial k q (a ^ q) (b ^ q) n (q + j) in

@@ -5,8 +5,8 @@ use Prim.Native.Nat.{ℕ, zero, suc, _+_, _-_, _*_, _^_, _≤_, _<_, zero-le}
 use native.Mathlib.Nat.{le-trans, le-of-eq, zero-add, add-assoc, suc-add, mul-suc, mul-zero, zero-mul, mul-assoc, mul-comm, mul-left-comm, mul-right-comm, mul-mul-mul-comm, add-mul, pow-zero, pow-suc, mul-le-mul, mul-le-mul-left, mul-le-mul-right, le-of-mul-le-mul-right, add-le-add, le-add-right}
 use native.Mathlib.Omega.{arith}
 use lib.Pow.{pow-add}
-use Rattle.elementary_fixed_point.specs.Series.{term, terms}
-use Rattle.elementary_fixed_point.specs.Code.Bounds.{Enclosure}
+use Rattle.elementary_fixed_point.specs.Series.{terms}
+use Rattle.elementary_fixed_point.specs.Code.Bounds.{Enclosure, term}
 use Rattle.elementary_fixed_point.proofs.PowerSums.{pos-pow}
 
 module _ (k : ℕ → ℕ) (d q : ℕ) where
@@ -28,7 +28,6 @@ module _ (k : ℕ → ℕ) (d q : ℕ) where
         each x y = ap (λ (z : ℕ). z * y ^ suc j) (pow-suc x j) ∙ ap (λ (z : ℕ). x ^ j * x * z) (pow-suc y j) ∙ mul-mul-mul-comm (x ^ j) x (y ^ j) y
 
     term-mono : (j : ℕ) → j ≤ d → term k d a b j * B ^ d ≤ term k d A B j * b ^ d
-    unfolding term
     term-mono j h =
         le-trans (le-of-eq (ap (λ (z : ℕ). k j * a ^ j * b ^ (d - j) * z) (whole B) ∙ regroup (k j) (a ^ j) (b ^ (d - j)) (B ^ j) (B ^ (d - j))))
         (le-trans (mul-le-mul-right (b ^ (d - j) * B ^ (d - j)) (mul-le-mul-left (k j) (power j)))

@@ -14,7 +14,7 @@ use lib.Ieee.Back.{round-whole}
 use lib.Ieee.Order.{round-mono}
 use lib.Ieee.Scale.{grid, round-val}
 use Rattle.ieee754_rounding.proofs.RoundingError.{absolute, no-overflow}
-use Rattle.ieee754_rounding.specs.Errors.{distance}
+use Rattle.ieee754_rounding.specs.Distance.{distance}
 use Rattle.elementary_fixed_point.specs.Fraction.{Fraction, negated, Near}
 use Rattle.elementary_fixed_point.specs.Conversion.{scaled}
 use Rattle.elementary_fixed_point.specs.Code.Bounds.{Approximates}

@@ -2,7 +2,7 @@
 use Prim.Native.Nat.{ℕ, _+_, _*_, _^_, _≤_}
 use mathlib.Core.Bool.{true, false}
 use lib.Ieee.{Float, nan, inf, fin, up, down}
-use Rattle.ieee754_rounding.specs.Errors.{distance}
+use Rattle.ieee754_rounding.specs.Distance.{distance}
 
 -- (plus - minus) / over
 pub record Fraction : Type 0 where

@@ -5,5 +5,4 @@ use Rattle.elementary_fixed_point.specs.Conversion.{fixed}
 
 -- the rounded quotient in units of 2 ^ -61, less what its rounding can have added (2 ^ -53), and 0 at least
 unfoldable pub ratio : Float → Float → ℕ
-unfolding fixed
 ratio a b = fixed (div binary64 a b) - 2 ^ 8

@@ -7,12 +7,13 @@ use native.Mathlib.Omega.{arith}
 use lib.IntN.{ℤ, pos}
 use lib.Dec.{T, ltb, eqb, ltb→lt, lt→ltb, eqb→eq, not-T, T-not}
 use lib.Pow.{pow-pos}
-use lib.Ieee.{Float, nan, inf, fin, binary64, up, down, lt, eq, isNan, fits, toBits, minus}
+use lib.Ieee.{Float, nan, inf, fin, binary64, up, down, lt, eq, isNan, fits, toBits, minus, ofBits}
 use lib.Ieee.Bits.{is-true, is-false}
 use lib.Ieee.Fits.{up-pos, down-pos, and-l, and-r, and-i, eq→eqb}
 use lib.Ieee.Positive.{num, den, positive}
 use Rattle.ieee754.specs.Sign.{plusZero}
-use Rattle.elementary_logarithm.specs.Promise.{one, NearQuotient, CommonLogarithm}
+use Rattle.ieee754.specs.Binary64.{one}
+use Rattle.elementary_logarithm.specs.Promise.{NearQuotient, CommonLogarithm}
 use Rattle.elementary_logarithm.specs.Steps.{logOfBits, log10Of}
 use Rattle.elementary_logarithm.proofs.Normal.{biased}
 use Rattle.elementary_logarithm.proofs.Pattern.{Found, found, bits-pos, bits-finite}
@@ -64,7 +65,7 @@ zero-not-less false e t = none' (0 * up e * 1) (down e) (ltb→lt (0 * up e * 1)
     none' n k h = omega arith
 
 zero-not-above : (s : Bool) (e : ℤ) → T (lt one (fin s 0 e)) → ⊥
-unfolding lt
+unfolding lt ofBits
 zero-not-above true e t = t
 zero-not-above false e t = none' (1 * 1 * down e) (up e) (ltb→lt (1 * 1 * down e) (0 * up e * 1) t)
   where
@@ -72,7 +73,7 @@ zero-not-above false e t = none' (1 * 1 * down e) (up e) (ltb→lt (1 * 1 * down
     none' n k h = omega arith
 
 minus-not-above : (m : ℕ) (e : ℤ) → T (lt one (fin true m e)) → ⊥
-unfolding lt
+unfolding lt ofBits
 minus-not-above m e t = t
 
 not-infinite : (s : Bool) (m : ℕ) (e : ℤ) → eq (fin s m e) (inf false) ≡ false
@@ -160,19 +161,19 @@ module _ (m : ℕ) (e : ℤ) (F : T (fits binary64 (fin false (suc m) e))) where
   one-of h = eq-of-mul-eq-mul-right (2 ^ 1126) (pow-pos 1126) n (down e) (f .is ∙ ap (λ (z : ℕ). z * down e) h ∙ mul-comm (2 ^ 1126) (down e))
 
   positive-below : T (lt x one) → T (lt v plusZero)
-  unfolding lt
+  unfolding lt ofBits
   positive-below t = f .logarithm .below (small-of (subst (λ (z : ℕ). z < down e) (mul-one n) (subst (λ (z : ℕ). n * 1 < z) (one-mul (down e)) (ltb→lt (n * 1) (1 * 1 * down e) t))))
 
   positive-above : T (lt one x) → T (lt plusZero v)
-  unfolding lt
+  unfolding lt ofBits
   positive-above t = f .logarithm .above (large-of (subst (λ (z : ℕ). z < n) (one-mul (down e)) (subst (λ (z : ℕ). 1 * 1 * down e < z) (mul-one n) (ltb→lt (1 * 1 * down e) (n * 1) t))))
 
   positive-size : T (not (eq x one)) → den v ≤ num v * 2 ^ 55
-  unfolding eq
+  unfolding eq ofBits
   positive-size t = f .logarithm .size (λ (h : f .s * 2 ^ f .p ≡ 2 ^ 1126). T-not (eqb (n * 1) (1 * 1 * down e) && true) t (and-i (eqb (n * 1) (1 * 1 * down e)) true (eq→eqb (mul-one n ∙ one-of h ∙ sym (one-mul (down e)))) tt))
 
 at-one : log10Of one ≡ plusZero
-unfolding fits
+unfolding fits ofBits
 at-one = f 0 (pos 0) tt .logarithm .at (same-of 0 (pos 0) tt refl)
 
 below-one : (x : Float) → T (fits binary64 x) → T (positive x) → T (lt x one) → T (lt (log10Of x) plusZero)
@@ -183,7 +184,7 @@ below-one (fin false zero e) F p t = absurd p
 below-one (fin false (suc m) e) F p t = positive-below m e F t
 
 above-one : (x : Float) → T (fits binary64 x) → T (lt one x) → T (lt plusZero (log10Of x))
-unfolding lt
+unfolding lt ofBits
 above-one nan F t = absurd t
 above-one (inf true) F t = absurd t
 above-one (inf false) F t = subst (λ (z : Float). T (lt plusZero z)) (sym at-infinity) tt

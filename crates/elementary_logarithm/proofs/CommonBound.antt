@@ -11,8 +11,9 @@ use Rattle.elementary_fixed_point.specs.Fraction.{Fraction}
 use Rattle.elementary_fixed_point.specs.Code.Bounds.{Approximates}
 use Rattle.elementary_fixed_point.proofs.Enclosures.{hi-le}
 use Rattle.elementary_fixed_point.proofs.Approximations.{approximates-more}
-use Rattle.elementary_logarithm.specs.Series.{ten, overTen}
+use Rattle.elementary_logarithm.specs.Series.{ten}
 use Rattle.elementary_logarithm.specs.Steps.{reciprocalTen, common, atLeastOne}
+use Rattle.elementary_logarithm.specs.Code.Parts.{overTen}
 use Rattle.elementary_logarithm.proofs.Constants.{reciprocal-ten-is, ten-low, ten-high, ten-large}
 
 -- P / O is above 1, and r / 2 ^ 64 its reciprocal from below

@@ -3,14 +3,14 @@ use mathlib.Core.Path.{_≡_, refl, sym, ap, _∙_}
 use Prim.Native.Nat.{ℕ, _+_, _*_, _^_, _≤_, _<_}
 use native.Mathlib.Nat.{le-trans, le-of-eq, le-of-lt, one-mul, add-mul, add-zero, zero-add, le-add-right, div-mul-le-self, lt-div-mul-add}
 use lib.Dec.{lit<, lit≤}
-use Rattle.elementary_fixed_point.specs.Series.{factorial, term, terms, reciprocal}
+use Rattle.elementary_fixed_point.specs.Series.{factorial, terms, reciprocal}
 use Rattle.elementary_fixed_point.specs.Product.{horner, tabulate}
 use Rattle.elementary_fixed_point.specs.Code.Bounds.{Approximates}
 use Rattle.elementary_logarithm.specs.Series.{L, ten}
 use Rattle.elementary_logarithm.specs.Steps.{logTwo, table, naturalAt, tableTwo, reciprocalTen}
 
 pub log-two-is : logTwo ≡ 12486629536330718
-unfolding logTwo terms term reciprocal factorial
+unfolding logTwo terms reciprocal factorial
 log-two-is = refl
 
 pub table-two-is : tableTwo ≡ 12486629536148167
@@ -18,7 +18,7 @@ unfolding tableTwo naturalAt table horner tabulate
 table-two-is = refl
 
 pub reciprocal-ten-is : reciprocalTen ≡ 8011319160293570762
-unfolding reciprocalTen terms term reciprocal factorial
+unfolding reciprocalTen terms reciprocal factorial
 reciprocal-ten-is = refl
 
 -- ---- each is its quotient rounded down
@@ -38,7 +38,7 @@ log-two-near = record {
     next x o = ap (λ (z : ℕ). x * o + z) (sym (one-mul o)) ∙ sym (add-mul x 1 o) ∙ sym (zero-add ((x + 1) * o))
 
 ten-pos : 0 < ten .plus
-unfolding terms term reciprocal factorial
+unfolding terms reciprocal factorial
 ten-pos = lit< tt
 
 pub ten-low : reciprocalTen * ten .plus ≤ 2 ^ 64 * ten .over
@@ -54,5 +54,5 @@ ten-high = le-trans (le-of-lt (lt-div-mul-add {a = 2 ^ 64 * ten .over} {b = ten 
 
 -- the natural logarithm of 10 is above 1
 pub ten-large : ten .over ≤ ten .plus
-unfolding terms term reciprocal factorial
+unfolding terms reciprocal factorial
 ten-large = lit≤ tt

@@ -11,13 +11,15 @@ use borrow.Author.Tests.{le-leb, lt-leb}
 use lib.Ieee.{Float, fin, neg, lt, ofBits, minus}
 use lib.Ieee.Positive.{num, den}
 use Rattle.ieee754.specs.Sign.{plusZero}
+use Rattle.ieee754.specs.Binary64.{twoToMinus54}
 use Rattle.elementary_fixed_point.specs.Fraction.{Fraction, sum, negated, times, Near}
 use Rattle.elementary_fixed_point.specs.Conversion.{scaled}
 use Rattle.elementary_fixed_point.specs.Code.Bounds.{Approximates, Enclosure}
 use Rattle.elementary_fixed_point.proofs.Approximations.{approximates-more, approximates-sum, approximates-difference, approximates-times}
 use Rattle.elementary_fixed_point.proofs.ToFloat.{Scaled, scaled-near, near-scaled, near-neg}
-use Rattle.elementary_logarithm.specs.Series.{L, overTen, multiple, quotient}
-use Rattle.elementary_logarithm.specs.Steps.{natural, argument, logTwo, tableTwo, common, atLeastOne, unit, sumFrom, sumUnder, logAt}
+use Rattle.elementary_logarithm.specs.Series.{L, multiple, quotient}
+use Rattle.elementary_logarithm.specs.Steps.{natural, argument, logTwo, tableTwo, common, atLeastOne, logAt}
+use Rattle.elementary_logarithm.specs.Code.Parts.{overTen, sumFrom, sumUnder}
 use Rattle.elementary_logarithm.proofs.Constants.{log-two-is, table-two-is, log-two-near}
 use Rattle.elementary_logarithm.proofs.SeriesBound.{error, natural-near, natural-upto}
 use Rattle.elementary_logarithm.proofs.Argument.{argument-near, argument-upto}
@@ -31,21 +33,21 @@ approximates-enclosed U l c E p o h e = record {
   high = le-trans (e .high) (le-trans (mul-le-mul-right o (add-le-add (le-add-right l c) (le-refl E))) (le-of-eq (sym (ap (λ (z : ℕ). z + (l + c + E) * o) (zero-mul U) ∙ zero-add ((l + c + E) * o)))));
 }
 
-unit-is : unit ≡ fin false 1 (negsuc 53)
+unit-is : twoToMinus54 ≡ fin false 1 (negsuc 53)
 unfolding ofBits
 unit-is = refl
 
 -- the float of d units
-float : (d : ℕ) → d < 2 ^ 64 → Scaled 54 d (scaled d unit)
+float : (d : ℕ) → d < 2 ^ 64 → Scaled 54 d (scaled d twoToMinus54)
 float d h = subst (λ (z : Float). Scaled 54 d (scaled d z)) (sym unit-is) (scaled-near 53 d (lit≤ tt) h)
 
-total : (D E : ℕ) (f : Fraction) → D < 2 ^ 64 → E ≤ 184162 → Approximates (2 ^ 54) D E f → Near 36 (scaled (atLeastOne (common D)) unit) (overTen f)
+total : (D E : ℕ) (f : Fraction) → D < 2 ^ 64 → E ≤ 184162 → Approximates (2 ^ 54) D E f → Near 36 (scaled (atLeastOne (common D)) twoToMinus54) (overTen f)
 total D E f h few a =
-    near-scaled 36 54 (atLeastOne (common D)) 184165 (overTen f) (scaled (atLeastOne (common D)) unit) (lit≤ tt) (float (atLeastOne (common D)) (at-least-lt (common D) (common-lt D h)))
+    near-scaled 36 54 (atLeastOne (common D)) 184165 (overTen f) (scaled (atLeastOne (common D)) twoToMinus54) (lit≤ tt) (float (atLeastOne (common D)) (at-least-lt (common D) (common-lt D h)))
     (approximates-at-least (2 ^ 54) (common D) 184164 (overTen f) (approximates-common (2 ^ 54) D 184162 f (le-of-lt h) (approximates-more (2 ^ 54) D E 184162 f few a)))
 
 abbrev result : ℕ → Float
-result D = scaled (atLeastOne (common D)) unit
+result D = scaled (atLeastOne (common D)) twoToMinus54
 
 signs : (D : ℕ) → D < 2 ^ 64 → T (lt plusZero (result D)) × T (lt (neg (result D)) plusZero)
 signs D h = let sc = float (atLeastOne (common D)) (at-least-lt (common D) (common-lt D h)) in above-zero 54 (result D) (sc .c) (sc .value) (sc .some (at-least-pos (common D)))

@@ -12,9 +12,11 @@ use lib.Ieee.{Float, nan, inf, fin, binary64, up, down, neg, fits, ofBits, toBit
 use lib.Ieee.Fits.{up-pos, and-l, and-r}
 use lib.Ieee.Exact.{HasValue}
 use lib.Ieee.Scale.{finite}
+use Rattle.ieee754.specs.Binary64.{twoToMinus81}
 use Rattle.ieee754.proofs.Fields.{signed, value-low, value-normal, value-top, by-plus, by-minus}
 use Rattle.elementary_fixed_point.specs.Conversion.{scaled}
-use Rattle.elementary_logarithm.specs.Steps.{oneBits, logAt, nearOne, farFromOne, isNearOne, logOfBits, common, pastOne, beforeOne, fineUnit}
+use Rattle.elementary_logarithm.specs.Steps.{oneBits, logAt, nearOne, farFromOne, logOfBits, common, pastOne, beforeOne}
+use Rattle.elementary_logarithm.specs.Code.Parts.{isNearOne}
 use Rattle.elementary_logarithm.proofs.Normal.{one-form}
 use Rattle.elementary_logarithm.proofs.Sign.{LogarithmAt}
 use Rattle.elementary_logarithm.proofs.FarBound.{log-at}
@@ -167,7 +169,7 @@ module _ (m : ℕ) (e : ℤ) (F : T (fits binary64 (fin false (suc m) e))) where
   -- ---- near 1
   near-found : oneBits - 2 ^ 34 < b → b < oneBits + 2 ^ 34 → Found (suc m) e (nearOne b)
   unfolding nearOne
-  near-found h k = normal-found (cond (ltb b oneBits) (neg (scaled (common (beforeOne (oneBits - b))) fineUnit)) (scaled (common (pastOne (b - oneBits))) fineUnit)) (large b h) (go (ltb b oneBits) (ltb→lt b oneBits) (nltb→le b oneBits))
+  near-found h k = normal-found (cond (ltb b oneBits) (neg (scaled (common (beforeOne (oneBits - b))) twoToMinus81)) (scaled (common (pastOne (b - oneBits))) twoToMinus81)) (large b h) (go (ltb b oneBits) (ltb→lt b oneBits) (nltb→le b oneBits))
     where
       large : (b : ℕ) → oneBits - 2 ^ 34 < b → 2 ^ 52 ≤ b
       large b h = omega arith
@@ -178,14 +180,14 @@ module _ (m : ℕ) (e : ℤ) (F : T (fits binary64 (fin false (suc m) e))) where
       past : (b : ℕ) → oneBits ≤ b → b < oneBits + 2 ^ 34 → (b - oneBits + 2 ^ 52 ≡ b % 2 ^ 52 + 2 ^ 52) × (1074 ≡ b / 2 ^ 52 + 51) × (b - oneBits < 2 ^ 34)
       past b h k = (omega arith, omega arith, omega arith)
 
-      go : (c : Bool) → (T c → b < oneBits) → (T (not c) → oneBits ≤ b) → LogarithmAt s p (cond c (neg (scaled (common (beforeOne (oneBits - b))) fineUnit)) (scaled (common (pastOne (b - oneBits))) fineUnit))
+      go : (c : Bool) → (T c → b < oneBits) → (T (not c) → oneBits ≤ b) → LogarithmAt s p (cond c (neg (scaled (common (beforeOne (oneBits - b))) twoToMinus81)) (scaled (common (pastOne (b - oneBits))) twoToMinus81))
       go true f g =
           let w = before b h (f tt) in
-          let v : Float = neg (scaled (common (beforeOne (oneBits - b))) fineUnit) in
+          let v : Float = neg (scaled (common (beforeOne (oneBits - b))) twoToMinus81) in
           subst (λ (z : ℕ). LogarithmAt z p v) (w .0) (subst (λ (z : ℕ). LogarithmAt (2 ^ 53 - (oneBits - b)) z v) (w .1) (before-one (oneBits - b) (w .2) (w .3)))
       go false f g =
           let w = past b (g tt) k in
-          let v : Float = scaled (common (pastOne (b - oneBits))) fineUnit in
+          let v : Float = scaled (common (pastOne (b - oneBits))) twoToMinus81 in
           subst (λ (z : ℕ). LogarithmAt z p v) (w .0) (subst (λ (z : ℕ). LogarithmAt (b - oneBits + 2 ^ 52) z v) (w .1) (past-one (b - oneBits) (w .2)))
 
   -- ---- away from 1

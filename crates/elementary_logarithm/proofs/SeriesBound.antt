@@ -5,15 +5,16 @@ use Prim.Native.Nat.{ℕ, _+_, _-_, _*_, _/_, _^_, _≤_, _<_, zero-le}
 use native.Mathlib.Nat.{le-refl, le-trans, le-of-eq, lt-of-le-of-lt, mul-one, mul-right-comm, mul-le-mul-right, add-mul, add-le-add, div-mul-le-self}
 use native.Mathlib.Omega.{arith}
 use lib.Dec.{T, lit<, lit≤}
-use Rattle.elementary_fixed_point.specs.Series.{factorial, term, terms, reciprocal}
+use Rattle.elementary_fixed_point.specs.Series.{factorial, terms, reciprocal}
 use Rattle.elementary_fixed_point.specs.Product.{hi, horner, tabulate}
 use Rattle.elementary_fixed_point.specs.Code.Bounds.{below, Enclosure}
 use Rattle.elementary_fixed_point.proofs.Enclosures.{enclosure-is, enclosure-power, hi-mono}
 use Rattle.elementary_fixed_point.proofs.Chains.{rounded}
 use Rattle.elementary_fixed_point.proofs.PowerSums.{pow-one, enclosure-terms}
 use Rattle.elementary_fixed_point.proofs.Tails.{enclosure-longer}
-use Rattle.elementary_logarithm.specs.Series.{L, oddTerms}
+use Rattle.elementary_logarithm.specs.Series.{L}
 use Rattle.elementary_logarithm.specs.Steps.{table, naturalAt, tableTwo}
+use Rattle.elementary_logarithm.specs.Code.Parts.{oddTerms}
 
 -- the argument is known to within δ units of 2 ^ -64, its square then to within 2 δ + 2
 abbrev pub δ : ℕ
@@ -30,7 +31,7 @@ table-below = tt
 
 -- the terms left out, at w = 1 / 3
 tail-small : terms (reciprocal 41) 41 2 1 3 11 21 * 2 ^ 62 ≤ 23370000 * (factorial 41 * 3 ^ 41)
-unfolding terms term reciprocal factorial
+unfolding terms reciprocal factorial
 tail-small = lit≤ tt
 
 -- ---- half of L, in units of 2 ^ -62

@@ -3,7 +3,8 @@ use mathlib.Core.Path.{_≡_, refl, sym, ap, _∙_, subst}
 use Prim.Native.Nat.{ℕ, zero, suc, _+_, _-_, _*_, _^_, _≤_, zero-le}
 use native.Mathlib.Nat.{le-refl, le-trans, le-of-eq, add-suc, add-assoc, add-comm, mul-assoc, mul-comm, mul-left-comm, mul-add, add-mul, mul-one, mul-zero, mul-suc, zero-add, pow-zero, pow-suc, mul-le-mul-left, mul-le-mul-right, add-le-add, le-add-right}
 use native.Mathlib.Omega.{arith}
-use Rattle.elementary_fixed_point.specs.Series.{term, terms}
+use Rattle.elementary_fixed_point.specs.Series.{terms}
+use Rattle.elementary_fixed_point.specs.Code.Bounds.{term}
 use Rattle.elementary_fixed_point.proofs.PowerSums.{pow-one}
 
 -- ---- one power
@@ -58,15 +59,12 @@ module _ (k : ℕ → ℕ) (c q y d Z : ℕ) where
   turn kn n x W = simp (mul-assoc, mul-left-comm) refl
 
   both : (i x : ℕ) → k (suc i) * (y ^ suc i + d * suc i * x ^ i) * Z ^ (suc c - suc i) ≡ term k (suc c) y Z (suc i) + d * term (slope k) c x Z i
-  unfolding term
   both i x = top (k (suc i)) (y ^ suc i) (d * suc i * x ^ i) (Z ^ (suc c - suc i)) ∙ ap (λ (w : ℕ). k (suc i) * y ^ suc i * Z ^ (suc c - suc i) + w) (turn (k (suc i)) (suc i) (x ^ i) (Z ^ (suc c - suc i)) ∙ ap (λ (w : ℕ). d * (k (suc i) * suc i * x ^ i * Z ^ w)) (less i))
 
   term-above : (i : ℕ) → term k (suc c) (y + d) Z (suc i) ≤ term k (suc c) y Z (suc i) + d * term (slope k) c (y + d) Z i
-  unfolding term
   term-above i = le-trans (mul-le-mul-right (Z ^ (suc c - suc i)) (mul-le-mul-left (k (suc i)) (power-above y d i))) (le-of-eq (both i (y + d)))
 
   term-below : (i : ℕ) → term k (suc c) y Z (suc i) + d * term (slope k) c y Z i ≤ term k (suc c) (y + d) Z (suc i)
-  unfolding term
   term-below i = le-trans (le-of-eq (sym (both i y))) (mul-le-mul-right (Z ^ (suc c - suc i)) (mul-le-mul-left (k (suc i)) (power-below y d i)))
 
   pair : (t r g h : ℕ) → t + d * g + (r + d * h) ≡ t + r + d * (g + h)

@@ -5,10 +5,10 @@ use Prim.Native.Nat.{ℕ, zero, suc, _+_, _-_, _*_, _^_, _≤_, _<_}
 use native.Mathlib.Nat.{le-trans, le-of-eq, le-antisymm, mul-assoc, mul-comm, mul-left-comm, mul-right-comm, one-mul, mul-le-mul-right, le-of-mul-le-mul-right, eq-of-mul-eq-mul-right, mul-mul-mul-comm, pow-zero, pow-suc}
 use native.Mathlib.Omega.{arith}
 use lib.Dec.{lit<, lit≤}
-use Rattle.elementary_fixed_point.specs.Series.{factorial, term, terms, reciprocal}
+use Rattle.elementary_logarithm.specs.Code.Parts.{oddTerms}
+use Rattle.elementary_fixed_point.specs.Series.{factorial, terms, reciprocal}
 use Rattle.elementary_fixed_point.proofs.PowerSums.{pos-pow}
 use Rattle.elementary_fixed_point.proofs.Tails.{terms-mono}
-use Rattle.elementary_logarithm.specs.Series.{oddTerms}
 use Rattle.elementary_logarithm.proofs.Slope.{slope, terms-above, terms-below}
 
 -- ---- the slope at w = 1 / 3 is at most 9 / 8; 2 ^ 34 steps below it, it is at least 9 / 8 but for a millionth
@@ -16,11 +16,11 @@ abbrev pub slopes : ℕ → ℕ → ℕ
 slopes a b = terms (slope (reciprocal 41)) 40 2 a b 21 0
 
 steepest : slopes 1 3 * 8 ≤ factorial 41 * 3 ^ 40 * 9
-unfolding terms term reciprocal factorial
+unfolding terms reciprocal factorial
 steepest = lit≤ tt
 
 flattest : factorial 41 * 786431 ^ 40 * (9 * 1048575) ≤ slopes 262143 786431 * (8 * 1048576)
-unfolding terms term reciprocal factorial
+unfolding terms reciprocal factorial
 flattest = lit≤ tt
 
 power-product : (x y n : ℕ) → (x * y) ^ n ≡ x ^ n * y ^ n

@@ -2,3 +2,4 @@
 pub mod Series
 pub mod Steps
 pub mod Promise
+pub mod Code

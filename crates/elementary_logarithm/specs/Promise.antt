@@ -2,16 +2,14 @@
 use Prim.Native.Nat.{ℕ, _*_, _^_, _≤_, _<_}
 use mathlib.Core.Path.{_≡_}
 use mathlib.Core.Bool.{true, false}
-use lib.IntN.{ℤ, pos}
+use lib.IntN.{ℤ}
 use lib.Dec.{T}
-use lib.Ieee.{Float, nan, inf, fin, up, down, lt, eq}
+use lib.Ieee.{Float, nan, inf, up, down, lt, eq}
 use lib.Ieee.Positive.{num, den, positive}
+use Rattle.ieee754.specs.Binary64.{one}
 use Rattle.ieee754.specs.Sign.{plusZero}
 use Rattle.elementary_fixed_point.specs.Fraction.{Near}
 use Rattle.elementary_logarithm.specs.Series.{quotient}
-
-abbrev pub one : Float
-one = fin false 1 (pos 0)
 
 -- x is m * 2 ^ e, m = s / 2 ^ 52 from 1 to below 2. (There is only one such s and e; see proofs/Normal.antt.)
 pub record Normal (x : Float) (s : ℕ) (e : ℤ) : Type 0 where

@@ -1,7 +1,7 @@
 -- Module 2: the steps that settle the bits of the common logarithm, on whole numbers below 2 ^ 64. The argument is m * 2 ^ (p - 1074) with
 -- m = s / 2 ^ 52 from 1 to below 2. Logarithms are in units of 2 ^ -54, and near 1 in units of 2 ^ -81. Definitions only.
 use Prim.Native.Nat.{ℕ, _+_, _-_, _*_, _/_, _%_, _^_}
-use mathlib.Core.Bool.{Bool, true, false, cond, _&&_}
+use mathlib.Core.Bool.{true, false, cond, _&&_}
 use mathlib.Core.List.{List}
 use lib.IntN.{pos}
 use lib.Dec.{ltb, eqb}
@@ -55,21 +55,13 @@ common d = hi d reciprocalTen
 abbrev pub atLeastOne : ℕ → ℕ
 atLeastOne g = cond (eqb g 0) 1 g
 
-abbrev pub unit : Float
-unit = twoToMinus54
-
--- from 1 on: p - 1074 times the logarithm of 2, and that of m
-abbrev pub sumFrom : ℕ → ℕ → ℕ
-sumFrom s p = (p - 1074) * logTwo + natural s
-
--- Below 1, with the sign changed: 1074 - p times the logarithm of 2, less that of m. One of these is by the table: where m is near 2, what the
--- table leaves out of it and of m's cancels, and so the small difference for an x near 1 is right in proportion.
-abbrev pub sumUnder : ℕ → ℕ → ℕ
-sumUnder s p = (1073 - p) * logTwo + (tableTwo - natural s)
-
+-- The logarithm of m * 2 ^ (p - 1074). From 1 on the natural one is p - 1074 times that of 2, and that of m. Below 1, with the sign changed, it
+-- is 1074 - p times that of 2, less that of m. One of these is by the table: where m is near 2, what the table leaves out of it and of m's
+-- cancels, and so the small difference for an x near 1 is right in proportion.
 unfoldable pub logAt : ℕ → ℕ → Float
 logAt s p =
-    cond (ltb p 1074) (neg (scaled (atLeastOne (common (sumUnder s p))) unit)) (scaled (atLeastOne (common (sumFrom s p))) unit)
+    cond (ltb p 1074) (neg (scaled (atLeastOne (common ((1073 - p) * logTwo + (tableTwo - natural s)))) twoToMinus54))
+    (scaled (atLeastOne (common ((p - 1074) * logTwo + natural s))) twoToMinus54)
 
 -- ---- near 1, by the first two terms, in units of 2 ^ -81
 
@@ -81,16 +73,13 @@ pastOne u = u * 2 ^ 29 - hi (u * 2 ^ 29) (u * 2 ^ 29) / 2 ^ 18
 unfoldable pub beforeOne : ℕ → ℕ
 beforeOne u = u * 2 ^ 28 + hi (u * 2 ^ 28) (u * 2 ^ 28) / 2 ^ 18
 
-abbrev pub fineUnit : Float
-fineUnit = twoToMinus81
-
 -- the pattern of 1
 abbrev pub oneBits : ℕ
 oneBits = 0x3ff0_0000_0000_0000
 
 unfoldable pub nearOne : ℕ → Float
 nearOne b =
-    cond (ltb b oneBits) (neg (scaled (common (beforeOne (oneBits - b))) fineUnit)) (scaled (common (pastOne (b - oneBits))) fineUnit)
+    cond (ltb b oneBits) (neg (scaled (common (beforeOne (oneBits - b))) twoToMinus81)) (scaled (common (pastOne (b - oneBits))) twoToMinus81)
 
 -- ---- the argument by its bit pattern
 
@@ -99,12 +88,9 @@ unfoldable pub farFromOne : ℕ → Float
 farFromOne b =
     cond (ltb b (2 ^ 52)) (logAt (b * 2 ^ (leadingZeros 64 b - 11)) (52 - (leadingZeros 64 b - 11))) (logAt (b % 2 ^ 52 + 2 ^ 52) (b / 2 ^ 52 + 51))
 
--- fewer than 2 ^ 34 patterns from 1
-abbrev pub isNearOne : ℕ → Bool
-isNearOne b = ltb (oneBits - 2 ^ 34) b && ltb b (oneBits + 2 ^ 34)
-
+-- near 1 are fewer than 2 ^ 34 patterns on either side
 unfoldable pub logOfBits : ℕ → Float
-logOfBits b = cond (isNearOne b) (nearOne b) (farFromOne b)
+logOfBits b = cond (ltb (oneBits - 2 ^ 34) b && ltb b (oneBits + 2 ^ 34)) (nearOne b) (farFromOne b)
 
 unfoldable pub log10Of : Float → Float
 log10Of x =

@@ -1,7 +1,8 @@
 // The common logarithm of a number above 0, by its bit pattern.
 ghost use mathlib.Core.Path.{_≡_};
 ghost use Prim.Native.Nat.{_+_, _-_, _*_, _^_, _<_, _≤_};
-ghost use Rattle.elementary_logarithm.specs.Steps.{common, atLeastOne, pastOne, beforeOne, logAt, nearOne, farFromOne, isNearOne, logOfBits, oneBits};
+ghost use Rattle.elementary_logarithm.specs.Steps.{common, atLeastOne, pastOne, beforeOne, logAt, nearOne, farFromOne, logOfBits, oneBits};
+ghost use Rattle.elementary_logarithm.specs.Code.Parts.{isNearOne};
 use crate::series;
 use elementary_fixed_point::conversion;
 use elementary_fixed_point::product;

@@ -13,8 +13,8 @@ use lib.Ieee.Fits.{down-pos, rem-fits}
 use lib.Ieee.Exact.{HasValue}
 use lib.Ieee.Scale.{finite}
 use Rattle.ieee754.specs.Sign.{absolute, signed}
-use Rattle.elementary_fixed_point.specs.Series.{factorial, term, terms, inverseFactorial}
-use Rattle.ieee754_rounding.specs.Errors.{distance}
+use Rattle.elementary_fixed_point.specs.Series.{factorial, terms, inverseFactorial}
+use Rattle.ieee754_rounding.specs.Distance.{distance}
 use Rattle.elementary_fixed_point.specs.Fraction.{negated, Near}
 use Rattle.elementary_fixed_point.specs.Conversion.{fixed}
 use Rattle.elementary_fixed_point.specs.Code.Bounds.{Fixable, Enclosure}
@@ -25,9 +25,12 @@ use Rattle.elementary_fixed_point.proofs.FromFloat.{whole}
 use Rattle.elementary_fixed_point.proofs.ToFloat.{near-neg}
 use Rattle.elementary_fixed_point.proofs.SameValue.{fits-unsigned}
 use Rattle.elementary_sincos.specs.Taylor.{fourthTerms, sineSum, cosineSum}
-use Rattle.elementary_sincos.specs.Reduction.{turn, remainder}
-use Rattle.elementary_sincos.specs.Steps.{sineSeries, sineOf, cosineOf, sine, cosine}
-use Rattle.elementary_sincos.specs.Promise.{limit, taylorSine, taylorCosine, SinePromise, CosinePromise}
+use Rattle.elementary_sincos.specs.Reduction.{restNum, restDen}
+use Rattle.elementary_sincos.specs.Steps.{sineSeries, sine, cosine}
+use Rattle.elementary_sincos.specs.Promise.{taylorSine, SinePromise, CosinePromise}
+use Rattle.ieee754.specs.Binary64.{twoPi, twoTo10}
+use Rattle.elementary_sincos.specs.Code.Parts.{cosineOf, remainder, sineOf}
+use Rattle.elementary_sincos.proofs.Parts.{sine-by-parts, cosine-by-parts}
 use Rattle.elementary_sincos.proofs.SeriesBound.{units-upto, sine-series-near, cosine-series-near}
 use Rattle.elementary_sincos.proofs.ExactRemainder.{turns, remainder-exact, rest-upto}
 
@@ -43,17 +46,17 @@ module _ (n d : ℕ) (tiny : n * 2 ^ 16 ≤ 1 * d) where
       (pos-pow (2 ^ 16) 42 (lit< tt))
 
   subtracted : fourthTerms n d 10 3 * 2 ^ 40 ≤ factorial 42 * d ^ 42
-  unfolding terms term inverseFactorial
+  unfolding terms inverseFactorial factorial
   subtracted = few 10 3 (lit≤ tt) (lit≤ tt)
 
   added : fourthTerms n d 10 5 * 2 ^ 40 ≤ factorial 42 * d ^ 42
-  unfolding terms term inverseFactorial
+  unfolding terms inverseFactorial factorial
   added = few 10 5 (lit≤ tt) (lit≤ tt)
 
   -- a / k is the same number as n / d
   module _ (a k : ℕ) (is : a * d ≡ n * k) where
     first : fourthTerms n d 11 1 * k ≡ a * (factorial 42 * d ^ 42) + fourthTerms n d 10 5 * k
-    unfolding terms term inverseFactorial
+    unfolding terms inverseFactorial factorial
     first =
         add-mul (factorial 42 * n ^ 1 * d ^ 41) (fourthTerms n d 10 5) k
         ∙ ap (λ (z : ℕ). z + fourthTerms n d 10 5 * k)
@@ -155,7 +158,7 @@ module _ (s : Bool) (m : ℕ) (e : ℤ) (f : T (fits binary64 (fin s m e))) wher
 
   pub rest : Rest (remainder (fin s m e))
   unfolding remainder
-  rest = go (remainder (fin s m e)) (remainder-exact s m e f) (rem-fits binary64 (fin s m e) turn f)
+  rest = go (remainder (fin s m e)) (remainder-exact s m e f) (rem-fits binary64 (fin s m e) twoPi f)
     where
       go : (r : Float) → HasValue r s n d → T (fits binary64 r) → Rest r
       go nan v t = absurd v
@@ -163,12 +166,16 @@ module _ (s : Bool) (m : ℕ) (e : ℤ) (f : T (fits binary64 (fin s m e))) wher
       go (fin u M E) v t = record { M = M; E = E; is = ap (λ (b : Bool). fin b M E) (v .0); fit = subst (λ (b : Bool). T (fits binary64 (fin b M E))) (v .0) t; value = v .1 }
 
   sine-near : Near 40 (sine (fin s m e)) (cond s (negated (sineSum n d)) (sineSum n d))
-  unfolding sine
-  sine-near = let r = rest in subst (λ (x : Float). Near 40 (sineOf x) (cond s (negated (sineSum n d)) (sineSum n d))) (sym (r .is)) (sine-at n d dp bound s (r .M) (r .E) (r .fit) (r .value))
+  sine-near =
+      let r = rest in
+      let at : sineOf (fin s (r .M) (r .E)) ≡ sine (fin s m e) = ap sineOf (sym (r .is)) ∙ sym (sine-by-parts (fin s m e)) in
+      subst (λ (v : Float). Near 40 v (cond s (negated (sineSum n d)) (sineSum n d))) at (sine-at n d dp bound s (r .M) (r .E) (r .fit) (r .value))
 
   cosine-near : Near 40 (cosine (fin s m e)) (cosineSum n d)
-  unfolding cosine
-  cosine-near = let r = rest in subst (λ (x : Float). Near 40 (cosineOf x) (cosineSum n d)) (sym (r .is)) (cosine-at n d dp bound s (r .M) (r .E) (r .fit) (r .value))
+  cosine-near =
+      let r = rest in
+      let at : cosineOf (fin s (r .M) (r .E)) ≡ cosine (fin s m e) = ap cosineOf (sym (r .is)) ∙ sym (cosine-by-parts (fin s m e)) in
+      subst (λ (v : Float). Near 40 v (cosineSum n d)) at (cosine-at n d dp bound s (r .M) (r .E) (r .fit) (r .value))
 
   -- what the code's steps ask of the remainder's size
   pub rest-in-range : Fixable (absolute (remainder (fin s m e)))
@@ -188,7 +195,7 @@ sine-everywhere nan f h = absurd h
 sine-everywhere (inf s) f h = absurd h
 sine-everywhere (fin s m e) f h = sine-near s m e f
 
-pub cosine-everywhere : (θ : Float) → T (fits binary64 θ) → T (finite θ) → Near 40 (cosine θ) (taylorCosine θ)
+pub cosine-everywhere : (θ : Float) → T (fits binary64 θ) → T (finite θ) → Near 40 (cosine θ) (cosineSum (restNum θ) (restDen θ))
 unfolding ofBits
 cosine-everywhere nan f h = absurd h
 cosine-everywhere (inf s) f h = absurd h
@@ -196,24 +203,24 @@ cosine-everywhere (fin s m e) f h = cosine-near s m e f
 
 -- ---- what is promised
 
-limited : (θ : Float) → T (le (absolute θ) limit) → T (finite θ)
+limited : (θ : Float) → T (le (absolute θ) twoTo10) → T (finite θ)
 unfolding le lt eq absolute ofBits
 limited nan h = h
 limited (inf s) h = h
 limited (fin s m e) h = tt
 
 pub sine-promise : (θ : Float) → T (fits binary64 θ) → SinePromise θ (sine θ)
-sine-promise θ f = record { undefined = none θ; near = λ (h : T (le (absolute θ) limit)). sine-everywhere θ f (limited θ h) }
+sine-promise θ f = record { undefined = none θ; near = λ (h : T (le (absolute θ) twoTo10)). sine-everywhere θ f (limited θ h) }
   where
     none : (θ : Float) → T (not (finite θ)) → sine θ ≡ nan
-    none nan h = unfold sine remainder rem sineOf in refl
-    none (inf s) h = unfold sine remainder rem sineOf in refl
+    none nan h = unfold sine rem in refl
+    none (inf s) h = unfold sine rem in refl
     none (fin s m e) h = absurd h
 
 pub cosine-promise : (θ : Float) → T (fits binary64 θ) → CosinePromise θ (cosine θ)
-cosine-promise θ f = record { undefined = none θ; near = λ (h : T (le (absolute θ) limit)). cosine-everywhere θ f (limited θ h) }
+cosine-promise θ f = record { undefined = none θ; near = λ (h : T (le (absolute θ) twoTo10)). cosine-everywhere θ f (limited θ h) }
   where
     none : (θ : Float) → T (not (finite θ)) → cosine θ ≡ nan
-    none nan h = unfold cosine remainder rem cosineOf in refl
-    none (inf s) h = unfold cosine remainder rem cosineOf in refl
+    none nan h = unfold cosine rem in refl
+    none (inf s) h = unfold cosine rem in refl
     none (fin s m e) h = absurd h

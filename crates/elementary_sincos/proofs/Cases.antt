@@ -12,8 +12,10 @@ use Rattle.ieee754.proofs.Fields.{nan-yes, nan-no}
 use Rattle.elementary_fixed_point.specs.Product.{hi}
 use Rattle.elementary_fixed_point.specs.Conversion.{fixed}
 use Rattle.elementary_fixed_point.specs.Code.Bounds.{Fixable}
-use Rattle.elementary_sincos.specs.Reduction.{remainder}
-use Rattle.elementary_sincos.specs.Steps.{small, sineFrom, cosineFrom, sineSeries, cosineSeries, sineOf, cosineOf, sine, cosine}
+use Rattle.elementary_sincos.specs.Steps.{sineSeries, cosineSeries, sine, cosine}
+use Rattle.ieee754.specs.Binary64.{twoToMinus16}
+use Rattle.elementary_sincos.specs.Code.Parts.{cosineFrom, cosineOf, remainder, sineFrom, sineOf}
+use Rattle.elementary_sincos.proofs.Parts.{sine-by-parts, cosine-by-parts}
 use Rattle.elementary_sincos.proofs.SeriesBound.{fourth-lt}
 use Rattle.elementary_sincos.proofs.Bounds.{rest, rest-in-range, rest-units, sine-promise, cosine-promise}
 use Rattle.elementary_sincos.specs.Promise.{SinePromise, CosinePromise}
@@ -29,14 +31,14 @@ of-nan r h = go r (nan-yes r h)
     go (fin s m e) p = absurd (true≢false (sym p))
 
 -- below 2 ^ -16
-pub of-small : (r : Float) → lt (absolute r) small ≡ true → r ≡ sineOf r
+pub of-small : (r : Float) → lt (absolute r) twoToMinus16 ≡ true → r ≡ sineOf r
 unfolding sineOf absolute
 of-small nan h = refl
 of-small (inf s) h = absurd (true≢false (sym h ∙ unfold lt ofBits in refl))
 of-small (fin s m e) h = rw h
 
 -- from there on `r < 0.0` is the sign
-sign-is : (s : Bool) (m : ℕ) (e : ℤ) → lt (fin false m e) small ≡ false → lt (fin s m e) (ofBits binary64 0) ≡ s
+sign-is : (s : Bool) (m : ℕ) (e : ℤ) → lt (fin false m e) twoToMinus16 ≡ false → lt (fin s m e) (ofBits binary64 0) ≡ s
 unfolding lt ofBits
 sign-is s m e h = go s
   where
@@ -89,18 +91,18 @@ module _ (r : Float) (k : Known r) (x x2 x4 : ℕ) (ex : x ≡ fixed (absolute r
   fourth-below =
       subst (λ (z : ℕ). z < 2 ^ 63) (sym (e4 ∙ ap (λ (z : ℕ). hi z z) e2)) (fourth-lt x (subst (λ (z : ℕ). z * 7 ≤ 44 * 2 ^ 61) (sym ex) (k .units)))
 
-  pub of-large : (v : Float) → lt (absolute r) small ≡ false → v ≡ signed (lt r (ofBits binary64 0)) (sineFrom x x2 x4) → v ≡ sineOf r
-  unfolding sineSeries
+  pub of-large : (v : Float) → lt (absolute r) twoToMinus16 ≡ false → v ≡ signed (lt r (ofBits binary64 0)) (sineFrom x x2 x4) → v ≡ sineOf r
+  unfolding sineSeries sineFrom
   of-large v h ev = ev ∙ ap (λ (z : ℕ). signed (lt r (ofBits binary64 0)) (sineFrom x x2 z)) (e4 ∙ ap (λ (z : ℕ). hi z z) e2) ∙ ap (λ (z : ℕ). signed (lt r (ofBits binary64 0)) (sineFrom x z (hi (hi x x) (hi x x)))) e2 ∙ ap (λ (z : ℕ). signed (lt r (ofBits binary64 0)) (sineSeries z)) ex ∙ at r (k .s) (k .m) (k .e) (k .is) h
     where
-      done : (s : Bool) (m : ℕ) (e : ℤ) → lt (fin false m e) small ≡ false → signed (lt (fin s m e) (ofBits binary64 0)) (sineSeries (fixed (fin false m e))) ≡ sineOf (fin s m e)
+      done : (s : Bool) (m : ℕ) (e : ℤ) → lt (fin false m e) twoToMinus16 ≡ false → signed (lt (fin s m e) (ofBits binary64 0)) (sineSeries (fixed (fin false m e))) ≡ sineOf (fin s m e)
       done s m e h = unfold sineOf in rw h (ap (λ (b : Bool). signed b (sineSeries (fixed (fin false m e)))) (sign-is s m e h))
 
-      at : (r : Float) (s : Bool) (m : ℕ) (e : ℤ) → r ≡ fin s m e → lt (absolute r) small ≡ false → signed (lt r (ofBits binary64 0)) (sineSeries (fixed (absolute r))) ≡ sineOf r
-      at r s m e q = subst (λ (z : Float). lt (absolute z) small ≡ false → signed (lt z (ofBits binary64 0)) (sineSeries (fixed (absolute z))) ≡ sineOf z) (sym q) (λ (h : lt (absolute (fin s m e)) small ≡ false). unfold absolute in done s m e h)
+      at : (r : Float) (s : Bool) (m : ℕ) (e : ℤ) → r ≡ fin s m e → lt (absolute r) twoToMinus16 ≡ false → signed (lt r (ofBits binary64 0)) (sineSeries (fixed (absolute r))) ≡ sineOf r
+      at r s m e q = subst (λ (z : Float). lt (absolute z) twoToMinus16 ≡ false → signed (lt z (ofBits binary64 0)) (sineSeries (fixed (absolute z))) ≡ sineOf z) (sym q) (λ (h : lt (absolute (fin s m e)) twoToMinus16 ≡ false). unfold absolute in done s m e h)
 
   pub of-cosine : (v : Float) → v ≡ cosineFrom x2 x4 → v ≡ cosineOf r
-  unfolding cosineSeries cosineOf absolute
+  unfolding cosineSeries cosineFrom cosineOf absolute
   of-cosine v ev =
       ev ∙ ap (λ (z : ℕ). cosineFrom x2 z) (e4 ∙ ap (λ (z : ℕ). hi z z) e2) ∙ ap (λ (z : ℕ). cosineFrom z (hi (hi x x) (hi x x))) e2 ∙ ap cosineSeries (ex ∙ ap (λ (z : Float). fixed (absolute z)) (k .is)) ∙ sym (ap cosineOf (k .is))
 
@@ -109,10 +111,10 @@ pub sine-is : (θ r v : Float) → T (fits binary64 θ) → r ≡ remainder θ �
 sine-is θ r v f q e = (is, subst (SinePromise θ) (sym is) (sine-promise θ f))
   where
     is : v ≡ sine θ
-    is = unfold sine in e ∙ ap sineOf q
+    is = e ∙ ap sineOf q ∙ sym (sine-by-parts θ)
 
 pub cosine-is : (θ r v : Float) → T (fits binary64 θ) → r ≡ remainder θ → v ≡ cosineOf r → (v ≡ cosine θ) × CosinePromise θ v
 cosine-is θ r v f q e = (is, subst (CosinePromise θ) (sym is) (cosine-promise θ f))
   where
     is : v ≡ cosine θ
-    is = unfold cosine in e ∙ ap cosineOf q
+    is = e ∙ ap cosineOf q ∙ sym (cosine-by-parts θ)

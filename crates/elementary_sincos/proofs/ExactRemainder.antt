@@ -13,7 +13,8 @@ use Rattle.elementary_fixed_point.proofs.PowerOfTwo.{significand-lt, exponent-l
 use Rattle.elementary_fixed_point.proofs.SameValue.{fits-unsigned}
 use Rattle.ieee754_rounding.proofs.Opposites.{neg-round}
 use Rattle.elementary_fixed_point.proofs.SmallRemainder.{rem-below}
-use Rattle.elementary_sincos.specs.Reduction.{turn, remainder}
+use Rattle.ieee754.specs.Binary64.{twoPi}
+use Rattle.elementary_sincos.specs.Code.Parts.{remainder}
 
 -- the f64 nearest 2π is this number of 2 ^ -47
 abbrev pub turns : ℕ
@@ -108,7 +109,7 @@ pub within : (s : Bool) (m : ℕ) (e : ℤ) → T (fits binary64 (fin s m e)) �
 unfolding remainder ofBits
 within s m e f h = rem-below binary64 s false m turns e (negsuc 46) f h
 
-pub within-turn : (θ : Float) → T (fits binary64 θ) → T (lt θ turn) → T (lt (neg turn) θ) → θ ≡ remainder θ
+pub within-turn : (θ : Float) → T (fits binary64 θ) → T (lt θ twoPi) → T (lt (neg twoPi) θ) → θ ≡ remainder θ
 unfolding lt neg ofBits
 within-turn nan f h g = absurd h
 within-turn (inf true) f h g = absurd g

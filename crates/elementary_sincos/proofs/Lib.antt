@@ -2,6 +2,7 @@
 pub mod SeriesBound
 pub mod SignedUnit
 pub mod ExactRemainder
+pub mod Parts
 pub mod Bounds
 pub mod Symmetry
 pub mod Cases

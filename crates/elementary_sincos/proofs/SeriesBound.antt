@@ -7,7 +7,7 @@ use native.Mathlib.Nat.{le-trans, le-of-eq, le-of-lt, lt-of-le-of-lt, mul-assoc,
 use native.Mathlib.Omega.{arith}
 use lib.Dec.{T, leb, leb→le, nleb→lt, lit<, lit≤}
 use lib.Ieee.{neg, ofBits}
-use Rattle.elementary_fixed_point.specs.Series.{factorial, term, terms, inverseFactorial}
+use Rattle.elementary_fixed_point.specs.Series.{factorial, terms, inverseFactorial}
 use Rattle.elementary_fixed_point.specs.Fraction.{Fraction, negated, Near}
 use Rattle.elementary_fixed_point.specs.Product.{hi, horner, tabulate}
 use Rattle.elementary_fixed_point.specs.Conversion.{scaled}
@@ -19,40 +19,42 @@ use Rattle.elementary_fixed_point.proofs.Tails.{enclosure-longer}
 use Rattle.elementary_fixed_point.proofs.Approximations.{enclosures-approximate}
 use Rattle.elementary_fixed_point.proofs.ToFloat.{scaled-near, near-scaled, near-neg}
 use Rattle.elementary_sincos.specs.Taylor.{fourthTerms, sineSum, cosineSum}
-use Rattle.elementary_sincos.specs.Steps.{sinePlus, sineMinus, cosinePlus, cosineMinus, unit, difference, sineFrom, cosineFrom, sineSeries, cosineSeries}
+use Rattle.elementary_sincos.specs.Steps.{coefficients, difference, sineSeries, cosineSeries}
+use Rattle.elementary_sincos.specs.Code.Parts.{sinePlus, sineMinus, cosinePlus, cosineMinus}
+use Rattle.ieee754.specs.Binary64.{twoToMinus53}
 
 -- ---- the tables, by one computed test for each
 
 sine-plus-rounded : T (rounded (inverseFactorial 42) (factorial 42) 4 4096 (2 ^ 56) 1 sinePlus)
-unfolding rounded inverseFactorial sinePlus tabulate factorial
+unfolding rounded inverseFactorial coefficients tabulate factorial
 sine-plus-rounded = tt
 
 sine-minus-rounded : T (rounded (inverseFactorial 42) (factorial 42) 4 4096 (2 ^ 62) 3 sineMinus)
-unfolding rounded inverseFactorial sineMinus tabulate factorial
+unfolding rounded inverseFactorial coefficients tabulate factorial
 sine-minus-rounded = tt
 
 cosine-plus-rounded : T (rounded (inverseFactorial 42) (factorial 42) 4 4096 (2 ^ 53) 0 cosinePlus)
-unfolding rounded inverseFactorial cosinePlus tabulate factorial
+unfolding rounded inverseFactorial coefficients tabulate factorial
 cosine-plus-rounded = tt
 
 cosine-minus-rounded : T (rounded (inverseFactorial 42) (factorial 42) 4 4096 (2 ^ 59) 2 cosineMinus)
-unfolding rounded inverseFactorial cosineMinus tabulate factorial
+unfolding rounded inverseFactorial coefficients tabulate factorial
 cosine-minus-rounded = tt
 
 pub sine-plus-below : T (below (2 ^ 63) sinePlus)
-unfolding below sinePlus tabulate factorial
+unfolding below coefficients tabulate factorial
 sine-plus-below = tt
 
 pub sine-minus-below : T (below (2 ^ 63) sineMinus)
-unfolding below sineMinus tabulate factorial
+unfolding below coefficients tabulate factorial
 sine-minus-below = tt
 
 pub cosine-plus-below : T (below (2 ^ 63) cosinePlus)
-unfolding below cosinePlus tabulate factorial
+unfolding below coefficients tabulate factorial
 cosine-plus-below = tt
 
 pub cosine-minus-below : T (below (2 ^ 63) cosineMinus)
-unfolding below cosineMinus tabulate factorial
+unfolding below coefficients tabulate factorial
 cosine-minus-below = tt
 
 -- ---- an angle up to 44 / 7
@@ -75,11 +77,11 @@ module _ (P N E : ℕ) (f : Fraction) (room : (E + 1024) * 2 ^ 40 ≤ 2 ^ 53) (p
       less : (P N k : ℕ) → P < k → P - N < k
       less P N k h = omega arith
 
-      go : (b : Bool) → (T b → N ≤ P) → (T (not b) → P < N) → Near 40 (cond b (scaled (P - N) unit) (neg (scaled (N - P) unit))) f
-      go true g h = near-scaled 40 53 (P - N) E f (scaled (P - N) unit) room (scaled-near 52 (P - N) (lit≤ tt) (less P N (2 ^ 64) pl)) (enclosures-approximate (2 ^ 53) P N E f (g tt) p n)
+      go : (b : Bool) → (T b → N ≤ P) → (T (not b) → P < N) → Near 40 (cond b (scaled (P - N) twoToMinus53) (neg (scaled (N - P) twoToMinus53))) f
+      go true g h = near-scaled 40 53 (P - N) E f (scaled (P - N) twoToMinus53) room (scaled-near 52 (P - N) (lit≤ tt) (less P N (2 ^ 64) pl)) (enclosures-approximate (2 ^ 53) P N E f (g tt) p n)
       go false g h =
-          near-neg 40 (scaled (N - P) unit) (negated f)
-          (near-scaled 40 53 (N - P) E (negated f) (scaled (N - P) unit) room (scaled-near 52 (N - P) (lit≤ tt) (less N P (2 ^ 64) nl)) (enclosures-approximate (2 ^ 53) N P E (negated f) (le-of-lt (h tt)) n p))
+          near-neg 40 (scaled (N - P) twoToMinus53) (negated f)
+          (near-scaled 40 53 (N - P) E (negated f) (scaled (N - P) twoToMinus53) room (scaled-near 52 (N - P) (lit≤ tt) (less N P (2 ^ 64) nl)) (enclosures-approximate (2 ^ 53) N P E (negated f) (le-of-lt (h tt)) n p))
 
 module _ (n d x : ℕ) (dp : 0 < d) (bound : n * 7 ≤ 44 * d) (ex : Enclosure x (x + 1) (n * 2 ^ 61) d) where
   pub units-upto : x * 7 ≤ 44 * 2 ^ 61
@@ -119,31 +121,31 @@ module _ (n d x : ℕ) (dp : 0 < d) (bound : n * 7 ≤ 44 * d) (ex : Enclosure x
 
   -- nine terms of each, and the two left out, which are at most 227, 7, 1334 and 38 units at 44 / 7
   plus₁ : Enclosure (hi x (horner x4 sinePlus)) (hi x (horner x4 sinePlus) + (120 + 227)) (fourthTerms n d 11 1 * 2 ^ 53) (factorial 42 * d ^ 42)
-  unfolding sinePlus tabulate factorial terms term inverseFactorial
+  unfolding coefficients tabulate factorial terms inverseFactorial
   plus₁ =
       enclosure-longer (inverseFactorial 42) 42 4 n d 44 7 bound (factorial 42) 120 (2 ^ 53) 227 9 2 1 (lit< tt) (lit≤ tt) (lit≤ tt)
       (enclosure-terms (inverseFactorial 42) (factorial 42) 42 4 n d 4096 x4 10 (lit< tt) x4l e4 dp 1 1 61 56 53 sinePlus xl (lit≤ tt) (lit≤ tt) refl (lit≤ tt) sine-plus-below sine-plus-rounded e1)
 
   minus₁ : Enclosure (hi (hi x (hi x x)) (horner x4 sineMinus)) (hi (hi x (hi x x)) (horner x4 sineMinus) + (126 + 7)) (fourthTerms n d 10 3 * 2 ^ 53) (factorial 42 * d ^ 42)
-  unfolding sineMinus tabulate factorial terms term inverseFactorial
+  unfolding coefficients tabulate factorial terms inverseFactorial
   minus₁ =
       enclosure-longer (inverseFactorial 42) 42 4 n d 44 7 bound (factorial 42) 126 (2 ^ 53) 7 9 1 3 (lit< tt) (lit≤ tt) (lit≤ tt)
       (enclosure-terms (inverseFactorial 42) (factorial 42) 42 4 n d 4096 x4 10 (lit< tt) x4l e4 dp 7 3 55 62 53 sineMinus x3l (lit≤ tt) (lit≤ tt) refl (lit≤ tt) sine-minus-below sine-minus-rounded e3)
 
   plus₀ : Enclosure (horner x4 cosinePlus) (horner x4 cosinePlus + (117 + 1334)) (fourthTerms n d 11 0 * 2 ^ 53) (factorial 42 * d ^ 42)
-  unfolding cosinePlus tabulate factorial terms term inverseFactorial
+  unfolding coefficients tabulate factorial terms inverseFactorial
   plus₀ =
       enclosure-longer (inverseFactorial 42) 42 4 n d 44 7 bound (factorial 42) 117 (2 ^ 53) 1334 9 2 0 (lit< tt) (lit≤ tt) (lit≤ tt)
       (enclosure-terms₀ (inverseFactorial 42) (factorial 42) 42 4 n d 4096 x4 10 (lit< tt) x4l e4 dp 53 cosinePlus (lit≤ tt) (lit≤ tt) cosine-plus-below cosine-plus-rounded)
 
   minus₀ : Enclosure (hi (hi x x) (horner x4 cosineMinus)) (hi (hi x x) (horner x4 cosineMinus) + (123 + 38)) (fourthTerms n d 11 2 * 2 ^ 53) (factorial 42 * d ^ 42)
-  unfolding cosineMinus tabulate factorial terms term inverseFactorial
+  unfolding coefficients tabulate factorial terms inverseFactorial
   minus₀ =
       enclosure-longer (inverseFactorial 42) 42 4 n d 44 7 bound (factorial 42) 123 (2 ^ 53) 38 9 2 2 (lit< tt) (lit≤ tt) (lit≤ tt)
       (enclosure-terms (inverseFactorial 42) (factorial 42) 42 4 n d 4096 x4 10 (lit< tt) x4l e4 dp 4 2 58 59 53 cosineMinus x2l (lit≤ tt) (lit≤ tt) refl (lit≤ tt) cosine-minus-below cosine-minus-rounded e2)
 
   pub sine-series-near : Near 40 (sineSeries x) (sineSum n d)
-  unfolding sineSeries sineFrom
+  unfolding sineSeries
   sine-series-near =
       difference-near (hi x (horner x4 sinePlus)) (hi (hi x (hi x x)) (horner x4 sineMinus)) 347 (sineSum n d) (lit≤ tt)
       (lt-of-le-of-lt (hi-le x (horner x4 sinePlus) xl) (horner-lt x4 sinePlus x4l sine-plus-below))
@@ -151,7 +153,7 @@ module _ (n d x : ℕ) (dp : 0 < d) (bound : n * 7 ≤ 44 * d) (ex : Enclosure x
       plus₁ (enclosure-widen 133 347 (lit≤ tt) minus₁)
 
   pub cosine-series-near : Near 40 (cosineSeries x) (cosineSum n d)
-  unfolding cosineSeries cosineFrom
+  unfolding cosineSeries
   cosine-series-near =
       difference-near (horner x4 cosinePlus) (hi (hi x x) (horner x4 cosineMinus)) 1451 (cosineSum n d) (lit≤ tt)
       (horner-lt x4 cosinePlus x4l cosine-plus-below) (lt-of-le-of-lt (hi-le (hi x x) (horner x4 cosineMinus) x2l) (horner-lt x4 cosineMinus x4l cosine-minus-below))

@@ -7,17 +7,18 @@ use lib.IntN.{pos}
 use lib.Dec.{T, ltb, leb, leb→le, nleb→lt}
 use borrow.Author.Tests.{lt-ltb, le-ltb}
 use lib.Ieee.{binary64, neg, ofInt}
-use Rattle.ieee754_rounding.specs.Errors.{distance}
+use Rattle.ieee754_rounding.specs.Distance.{distance}
 use Rattle.ieee754_rounding.proofs.Opposites.{neg-neg, mul-neg}
 use Rattle.elementary_fixed_point.specs.Conversion.{scaled}
 use Rattle.ieee754.specs.Sign.{signed}
-use Rattle.elementary_sincos.specs.Steps.{unit, difference}
+use Rattle.elementary_sincos.specs.Steps.{difference}
+use Rattle.ieee754.specs.Binary64.{twoToMinus53}
 
-scaled-neg : (d : ℕ) → scaled d (neg unit) ≡ neg (scaled d unit)
+scaled-neg : (d : ℕ) → scaled d (neg twoToMinus53) ≡ neg (scaled d twoToMinus53)
 unfolding scaled
-scaled-neg d = mul-neg binary64 (ofInt binary64 (pos d)) unit
+scaled-neg d = mul-neg binary64 (ofInt binary64 (pos d)) twoToMinus53
 
-pub signed-difference : (p n : ℕ) (negative : Bool) → scaled (distance p n) (signed negative (signed (ltb p n) unit)) ≡ signed negative (difference p n)
+pub signed-difference : (p n : ℕ) (negative : Bool) → scaled (distance p n) (signed negative (signed (ltb p n) twoToMinus53)) ≡ signed negative (difference p n)
 unfolding difference
 signed-difference p n negative = go negative (leb n p) (leb→le n p) (nleb→lt n p)
   where
@@ -27,8 +28,8 @@ signed-difference p n negative = go negative (leb n p) (leb→le n p) (nleb→lt
     under : (p n : ℕ) → p < n → distance p n ≡ n - p
     under p n h = omega arith
 
-    go : (s b : Bool) → (T b → n ≤ p) → (T (not b) → p < n) → scaled (distance p n) (signed s (signed (ltb p n) unit)) ≡ signed s (cond b (scaled (p - n) unit) (neg (scaled (n - p) unit)))
+    go : (s b : Bool) → (T b → n ≤ p) → (T (not b) → p < n) → scaled (distance p n) (signed s (signed (ltb p n) twoToMinus53)) ≡ signed s (cond b (scaled (p - n) twoToMinus53) (neg (scaled (n - p) twoToMinus53)))
     go false true f g = rw (le-ltb p n (f tt), above p n (f tt))
     go true true f g = rw (le-ltb p n (f tt), above p n (f tt)) (scaled-neg (p - n))
     go false false f g = rw (lt-ltb p n (g tt), under p n (g tt)) (scaled-neg (n - p))
-    go true false f g = rw (lt-ltb p n (g tt), under p n (g tt)) (ap (scaled (n - p)) (neg-neg unit) ∙ sym (neg-neg (scaled (n - p) unit)))
+    go true false f g = rw (lt-ltb p n (g tt), under p n (g tt)) (ap (scaled (n - p)) (neg-neg twoToMinus53) ∙ sym (neg-neg (scaled (n - p) twoToMinus53)))

@@ -12,8 +12,10 @@ use Rattle.ieee754_rounding.proofs.Opposites.{neg-neg}
 use Rattle.elementary_fixed_point.specs.Series.{factorial}
 use Rattle.elementary_fixed_point.specs.Product.{horner, tabulate}
 use Rattle.elementary_fixed_point.specs.Conversion.{fixed, scaled}
-use Rattle.elementary_sincos.specs.Reduction.{remainder}
-use Rattle.elementary_sincos.specs.Steps.{cosinePlus, cosineMinus, difference, cosineFrom, sineSeries, cosineSeries, small, sineOf, cosineOf, sine, cosine}
+use Rattle.elementary_sincos.specs.Steps.{coefficients, difference, sineSeries, cosineSeries, sine, cosine}
+use Rattle.ieee754.specs.Binary64.{twoToMinus16}
+use Rattle.elementary_sincos.specs.Code.Parts.{remainder, sineOf, cosineOf}
+use Rattle.elementary_sincos.proofs.Parts.{sine-by-parts, cosine-by-parts}
 use Rattle.elementary_sincos.proofs.ExactRemainder.{turns, within, remainder-neg}
 use Rattle.elementary_sincos.proofs.Cases.{of-small}
 
@@ -25,7 +27,7 @@ sine-of-neg : (r : Float) → sineOf (neg r) ≡ neg (sineOf r)
 unfolding sineOf neg
 sine-of-neg nan = refl
 sine-of-neg (inf s) = refl
-sine-of-neg (fin s m e) = go (lt (fin false m e) small)
+sine-of-neg (fin s m e) = go (lt (fin false m e) twoToMinus16)
   where
     v : Float
     v = sineSeries (fixed (fin false m e))
@@ -41,24 +43,22 @@ cosine-of-neg (inf s) = refl
 cosine-of-neg (fin s m e) = refl
 
 pub sine-odd : (θ : Float) → sine (neg θ) ≡ neg (sine θ)
-unfolding sine
-sine-odd θ = ap sineOf (remainder-neg θ) ∙ sine-of-neg (remainder θ)
+sine-odd θ = sine-by-parts (neg θ) ∙ ap sineOf (remainder-neg θ) ∙ sine-of-neg (remainder θ) ∙ ap neg (sym (sine-by-parts θ))
 
 pub cosine-even : (θ : Float) → cosine (neg θ) ≡ cosine θ
-unfolding cosine
-cosine-even θ = ap cosineOf (remainder-neg θ) ∙ cosine-of-neg (remainder θ)
+cosine-even θ = cosine-by-parts (neg θ) ∙ ap cosineOf (remainder-neg θ) ∙ cosine-of-neg (remainder θ) ∙ sym (cosine-by-parts θ)
 
 -- a tiny angle, zeros with their signs among them
-pub sine-small : (θ : Float) → T (fits binary64 θ) → T (lt (absolute θ) small) → sine θ ≡ θ
+pub sine-small : (θ : Float) → T (fits binary64 θ) → T (lt (absolute θ) twoToMinus16) → sine θ ≡ θ
 sine-small nan f h = absurd (unfold absolute lt in h)
 sine-small (inf s) f h = absurd (unfold absolute lt ofBits in h)
 sine-small (fin s m e) f h =
     let is : fin s m e ≡ remainder (fin s m e) = within s m e f (wider (m * up e) (down e) (ltb→lt (m * up e * 2 ^ 16) (1 * 1 * down e) (unfold absolute lt ofBits in h))) in
-    let yes : lt (absolute (fin s m e)) small ≡ true = true-is (lt (absolute (fin s m e)) small) h in
+    let yes : lt (absolute (fin s m e)) twoToMinus16 ≡ true = true-is (lt (absolute (fin s m e)) twoToMinus16) h in
     by (fin s m e) is (of-small (fin s m e) yes)
   where
     by : (θ : Float) → θ ≡ remainder θ → θ ≡ sineOf θ → sine θ ≡ θ
-    by θ p q = unfold sine in (ap sineOf (sym p) ∙ sym q)
+    by θ p q = sine-by-parts θ ∙ ap sineOf (sym p) ∙ sym q
 
     wider : (a d : ℕ) → a * 2 ^ 16 < 1 * 1 * d → a * 2 ^ 47 < turns * 1 * d
     wider a d h = omega arith
@@ -69,6 +69,6 @@ sine-small (fin s m e) f h =
 
 -- the cosine of a zero is 1
 pub cosine-zero : (s : Bool) → cosine (fin s 0 (pos 0)) ≡ fin false 1 (pos 0)
-unfolding cosine remainder rem round size span climb units odd trailingZeros ofBits cosineOf cosineSeries cosineFrom difference scaled fixed mul ofInt toUnsigned horner cosinePlus cosineMinus tabulate factorial
+unfolding cosine rem round size span climb units odd trailingZeros ofBits absolute cosineSeries difference scaled fixed mul ofInt toUnsigned horner coefficients tabulate factorial
 cosine-zero true = refl
 cosine-zero false = refl

@@ -3,3 +3,4 @@ pub mod Taylor
 pub mod Reduction
 pub mod Steps
 pub mod Promise
+pub mod Code

@@ -10,21 +10,15 @@ use Rattle.elementary_fixed_point.specs.Fraction.{Fraction, negated, Near}
 use Rattle.elementary_sincos.specs.Taylor.{sineSum, cosineSum}
 use Rattle.elementary_sincos.specs.Reduction.{restNum, restDen}
 
--- up to which sine and cosine are near the Taylor sums
-abbrev pub limit : Float
-limit = twoTo10
-
--- the Taylor sums at θ's exact remainder; sine's with the sign of θ
+-- sine's Taylor sum at θ's exact remainder, with the sign of θ
 abbrev pub taylorSine : Float → Fraction
 taylorSine θ = cond (signBit θ) (negated (sineSum (restNum θ) (restDen θ))) (sineSum (restNum θ) (restDen θ))
 
-abbrev pub taylorCosine : Float → Fraction
-taylorCosine θ = cosineSum (restNum θ) (restDen θ)
-
+-- up to 1,024 they are within 2 ^ -40 of the Taylor sums
 pub record SinePromise (θ v : Float) : Type 0 where
   pub undefined : T (not (finite θ)) → v ≡ nan
-  pub near : T (le (absolute θ) limit) → Near 40 v (taylorSine θ)
+  pub near : T (le (absolute θ) twoTo10) → Near 40 v (taylorSine θ)
 
 pub record CosinePromise (θ v : Float) : Type 0 where
   pub undefined : T (not (finite θ)) → v ≡ nan
-  pub near : T (le (absolute θ) limit) → Near 40 v (taylorCosine θ)
+  pub near : T (le (absolute θ) twoTo10) → Near 40 v (cosineSum (restNum θ) (restDen θ))

@@ -3,9 +3,11 @@ ghost use mathlib.Core.Path.{_≡_};
 ghost use lib.Dec.{ltb};
 ghost use Prim.Native.Nat.{_^_, _<_};
 ghost use Rattle.elementary_fixed_point.specs.Product.{horner};
-ghost use Rattle.ieee754_rounding.specs.Errors.{distance};
+ghost use Rattle.ieee754_rounding.specs.Distance.{distance};
+ghost use Rattle.ieee754.specs.Binary64.{twoToMinus53};
 ghost use Rattle.ieee754.specs.Sign.{signed};
-ghost use Rattle.elementary_sincos.specs.Steps.{sinePlus, sineMinus, cosinePlus, cosineMinus, unit, difference, sineFrom, cosineFrom};
+ghost use Rattle.elementary_sincos.specs.Steps.{difference};
+ghost use Rattle.elementary_sincos.specs.Code.Parts.{sineFrom, cosineFrom, sinePlus, sineMinus, cosinePlus, cosineMinus};
 use elementary_fixed_point::conversion;
 use elementary_fixed_point::product;
 
@@ -98,7 +100,7 @@ fn gap(p: u64, n: u64) -> u64
 
 // The unit 2^-53 with the sign of p - n, changed where negative says so. A choice between two constants is no jump.
 fn signed_unit(p: u64, n: u64, negative: bool) -> f64
-    ensures { λ r. ⌜ r ≡ signed negative (signed (ltb p n) unit) ⌝ }
+    ensures { λ r. ⌜ r ≡ signed negative (signed (ltb p n) twoToMinus53) ⌝ }
 {
     let less = p < n;
     if less == negative {

@@ -19,8 +19,8 @@ use Rattle.ieee754_rounding.proofs.Commutation.{mul-commutes, add-commutes}
 use Rattle.ieee754_rounding.proofs.Opposites as opposites
 use Rattle.ieee754_rounding.proofs.Opposites.{Opposite, neg-neg, mul-neg, add-neg, add-opposite}
 use Rattle.ieee754_rounding.proofs.MinusZero.{notMinusZero, add-not-minus-zero}
-use Rattle.estimate_correlation.specs.Correlation.{lagProduct, lagSum}
-use Rattle.estimate_correlation.specs.Code.RunningSums.{turned}
+use Rattle.estimate_correlation.specs.Correlation.{lagSum}
+use Rattle.estimate_correlation.specs.Code.RunningSums.{turned, lagProduct}
 
 -- ---- conjugates but for the sign of a zero, at any format
 

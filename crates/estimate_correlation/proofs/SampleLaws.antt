@@ -9,12 +9,12 @@ use lib.Ieee.{Float, binary32}
 use Rattle.sums.specs.Complex.{mulC}
 use Rattle.sums.specs.Interleaved.{at}
 use Rattle.sums.proofs.Tables.{length-table, at-table}
-use Rattle.estimate_correlation.specs.Correlation.{squares, prepared}
+use Rattle.estimate_correlation.specs.Correlation.{prepared}
 
 module _ (xs : List Float) (k : ℕ) {squared : Bool} {a b : Float} where
   pub square-at : squared ≡ true → 2 * k + 1 < length xs → a ≡ mulC binary32 (at xs k) (at xs k) .0 → b ≡ mulC binary32 (at xs k) (at xs k) .1
       → (a, b) ≡ at (prepared squared xs) k
-  unfolding prepared squares
+  unfolding prepared
   square-at es h ea eb = rw (es, ea, eb) (sym (at-table (length xs / 2) (λ k. mulC binary32 (at xs k) (at xs k)) k (omega arith)))
 
   pub plain-at : squared ≡ false → a ≡ at xs k .0 → b ≡ at xs k .1 → (a, b) ≡ at (prepared squared xs) k
@@ -22,7 +22,7 @@ module _ (xs : List Float) (k : ℕ) {squared : Bool} {a b : Float} where
   plain-at es ea eb = rw (es, ea, eb)
 
 pub prepared-count : (b : Bool) (xs : List Float) → length (prepared b xs) / 2 ≡ length xs / 2
-unfolding prepared squares
+unfolding prepared
 prepared-count false xs = refl
 prepared-count true xs = let l = length-table (length xs / 2) (λ k. mulC binary32 (at xs k) (at xs k)) in ap (λ (n : ℕ). n / 2) l ∙ half (length xs / 2)
   where

@@ -13,8 +13,8 @@ use Rattle.sums.specs.Complex.{Cx, zeroC, addC, mulC, divC, conj}
 use Rattle.sums.specs.Interleaved.{at, table}
 use Rattle.sums.proofs.Adding.{sum-next}
 use Rattle.sums.proofs.Tables.{length-table, at-table, table-same, table-split, table-take, table-drop}
-use Rattle.estimate_correlation.specs.Correlation.{lagProduct, lagSum}
-use Rattle.estimate_correlation.specs.Code.RunningSums.{termAdded, rowOf, rowAdded, rows, upperEntry, upperSums, turned, mirrored}
+use Rattle.estimate_correlation.specs.Correlation.{lagSum}
+use Rattle.estimate_correlation.specs.Code.RunningSums.{termAdded, rowOf, rowAdded, rows, upperEntry, upperSums, turned, mirrored, lagProduct}
 use Rattle.sequences.proofs.Choices.{cond-yes, cond-no}
 use Rattle.estimate_correlation.proofs.MirrorLaw.{lag-mirrored}
 use Rattle.estimate_correlation.proofs.RowLaws.{length-rows, rows-same, row-at, entry-at}

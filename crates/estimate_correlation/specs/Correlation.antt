@@ -12,25 +12,17 @@ use Rattle.sums.specs.Interleaved.{at, table}
 
 -- ---- the samples: themselves, or for BPSK their squares, in binary32
 
-unfoldable pub squares : List Float → List Float
-squares xs = table (length xs / 2) (λ k. mulC binary32 (at xs k) (at xs k))
-
 unfoldable pub prepared : Bool → List Float → List Float
 prepared false xs = xs
-prepared true xs = squares xs
+prepared true xs = table (length xs / 2) (λ k. mulC binary32 (at xs k) (at xs k))
 
 -- ---- the correlation matrix: entry (i, j) is the mean over l places of the sample at lag i times the conjugate of that at lag j; place k
 -- is the ten samples from k on, and lag i there is sample k + 9 - i
 
-abbrev pub lagProduct : List Float → ℕ → ℕ → ℕ → Cx
-lagProduct xs i j k = mulC binary64 (at xs (k + 9 - i)) (conj (at xs (k + 9 - j)))
-
+-- the sum, from 0 up
 abbrev pub lagSum : List Float → ℕ → ℕ → ℕ → Cx
-lagSum xs l i j = sumFrom (addC binary64) (zeroC binary64) (lagProduct xs i j) l
-
-abbrev pub correlation : List Float → ℕ → ℕ → ℕ → Cx
-correlation xs l i j = divC binary64 (lagSum xs l i j) (ofInt binary64 (pos l))
+lagSum xs l i j = sumFrom (addC binary64) (zeroC binary64) (λ k. mulC binary64 (at xs (k + 9 - i)) (conj (at xs (k + 9 - j)))) l
 
 -- row by row
 unfoldable pub correlationMatrix : List Float → ℕ → List Float
-correlationMatrix xs l = table 100 (λ p. correlation xs l (p / 10) (p % 10))
+correlationMatrix xs l = table 100 (λ p. divC binary64 (lagSum xs l (p / 10) (p % 10)) (ofInt binary64 (pos l)))

@@ -4,7 +4,7 @@ use lib.Count.{trailingZeros}
 use lib.Ieee.{ofBits, ofFields, odd, add, sub, sum, mul, div, neg, lt, eq, ne, round, size, span, climb, units}
 use Rattle.ieee754.specs.Binary64.{zero, one, two, three, four}
 use Rattle.ieee754.specs.Sign.{absolute}
-use Rattle.estimate_dispersion.specs.Dispersion.{dispersionFree, contentOf, electronContent}
+use Rattle.estimate_dispersion.specs.Dispersion.{dispersionFree, electronContent}
 
 -- f1 2, f2 1, offsets 3 and 0
 pub cancel-value : dispersionFree two one three zero ≡ four
@@ -23,5 +23,5 @@ content-equal = refl
 
 -- carriers 2 and 1, phases 2 and 1: the same phase for each hertz, so nothing was on the way
 pub content-none : electronContent two one two one three ≡ zero
-unfolding electronContent contentOf absolute add sub sum mul div neg lt eq ne round size span climb units ofBits ofFields odd trailingZeros
+unfolding electronContent absolute add sub sum mul div neg lt eq ne round size span climb units ofBits ofFields odd trailingZeros
 content-none = refl

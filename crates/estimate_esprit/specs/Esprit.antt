@@ -5,9 +5,9 @@ use mathlib.Core.Bool.{cond}
 use Prim.Native.Nat.{ℕ, zero, suc, _+_, _-_, _*_, _/_}
 use lib.ListN.{length}
 use lib.Dec.{ltb}
-use lib.Ieee.{Float, binary64, add, mul, div, neg, lt}
+use lib.Ieee.{Float, binary64, add, neg, lt}
 use Rattle.ieee754.specs.Binary64 as float
-use Rattle.ieee754.specs.Binary64.{one, two, twoPi, tenToMinus12}
+use Rattle.ieee754.specs.Binary64.{times, over, one, two, twoPi, tenToMinus12}
 use Rattle.ieee754.specs.SquareRoot.{sqrt}
 use Rattle.ieee754.specs.Order.{clamped}
 use Rattle.estimate_correlation.specs.Correlation.{correlationMatrix}
@@ -16,17 +16,10 @@ use Rattle.sums.specs.Ascending.{sumFrom, sumTo}
 use Rattle.sums.specs.Complex.{Cx, zeroC, addC, mulC, divC, conj, normSqr}
 use Rattle.sums.specs.Interleaved.{at, table}
 
--- what is not above it counts as nothing
-abbrev pub least : Float
-least = tenToMinus12
-
 -- ---- the strongest vector of the correlation matrix, by power iteration; the product's sums and the norm's start at their first term
 
-abbrev pub rowTimes : List Float → List Float → ℕ → Cx
-rowTimes r u i = sumTo (addC binary64) (λ j. mulC binary64 (at r (10 * i + j)) (at u j)) 9
-
 unfoldable pub matrixTimes : List Float → List Float → List Float
-matrixTimes r u = table 10 (rowTimes r u)
+matrixTimes r u = table 10 (λ i. sumTo (addC binary64) (λ j. mulC binary64 (at r (10 * i + j)) (at u j)) 9)
 
 unfoldable pub norm : List Float → Float
 norm w = sqrt binary64 (sumTo (add binary64) (λ i. normSqr binary64 (at w i)) 9)
@@ -37,7 +30,7 @@ dividedBy d w = table 10 (λ i. divC binary64 (at w i) d)
 -- at most n steps from u; they end where the product's norm is not above 1e-12
 unfoldable pub powerIteration : ℕ → List Float → List Float → List Float
 powerIteration zero r u = u
-powerIteration (suc n) r u = let w = matrixTimes r u in cond (lt least (norm w)) (powerIteration n r (dividedBy (norm w) w)) u
+powerIteration (suc n) r u = let w = matrixTimes r u in cond (lt tenToMinus12 (norm w)) (powerIteration n r (dividedBy (norm w) w)) u
 
 unfoldable pub ones : List Float
 ones = table 10 (λ i. (one, float.zero))
@@ -50,15 +43,12 @@ lagOneProduct u = sumFrom (addC binary64) (zeroC binary64) (λ i. mulC binary64 
 unfoldable pub energy : List Float → Float
 energy u = sumFrom (add binary64) float.zero (λ i. normSqr binary64 (at u i)) 9
 
--- at the sample rate fs: -(angle fs) / 2π, within half the rate
-unfoldable pub frequencyAt : Float → Float → Float
-frequencyAt fs angle =
-    clamped (div binary64 (neg (mul binary64 angle fs)) twoPi) (div binary64 (neg fs) two) (div binary64 fs two)
-
+-- at the sample rate fs: -(angle fs) / 2π, within half the rate; 0 where the energy is not above 1e-12
 unfoldable pub frequency : List Float → Float → Float
 frequency u fs =
     let psi = divC binary64 (lagOneProduct u) (energy u) in
-    cond (lt least (energy u)) (frequencyAt fs (atan2Of (psi .1) (psi .0))) float.zero
+    let f = over (neg (times (atan2Of (psi .1) (psi .0)) fs)) twoPi in
+    cond (lt tenToMinus12 (energy u)) (clamped f (over (neg fs) two) (over fs two)) float.zero
 
 -- ---- the estimate; fewer than ten samples give 0, and n samples have n - 9 places
 

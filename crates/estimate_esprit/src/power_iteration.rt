@@ -2,7 +2,8 @@
 use sums::complex::Complex;
 ghost use mathlib.Core.Path.{_≡_};
 ghost use Prim.Native.Nat.{_<_};
-ghost use Rattle.estimate_esprit.specs.Esprit.{rowTimes, matrixTimes, norm, dividedBy, powerIteration, ones};
+ghost use Rattle.estimate_esprit.specs.Esprit.{matrixTimes, norm, dividedBy, powerIteration, ones};
+ghost use Rattle.estimate_esprit.specs.Code.Rows.{rowTimes};
 
 // Row i of the matrix times the vector.
 fn row_times(r: &[f64; 200], u: &[f64; 20], i: usize) -> Complex

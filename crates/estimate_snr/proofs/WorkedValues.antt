@@ -4,14 +4,15 @@ use mathlib.Core.List.{[], _∷_}
 use lib.Count.{trailingZeros}
 use lib.Ieee.{ofBits, ofFields, odd, ofInt, add, sub, sum, mul, div, neg, lt, round, size, span, climb, units}
 use Rattle.ieee754.specs.Binary32.{zero, one}
-use Rattle.ieee754.specs.SquareRoot.{sqrt, roundRoot, isqrt, rootDigits}
+use Rattle.ieee754.specs.Binary64.{twenty, forty}
+use Rattle.ieee754.specs.SquareRoot.{sqrt, roundRoot, rootDigits}
 use Rattle.sums.specs.Ascending.{sumFrom}
-use Rattle.estimate_snr.specs.MomentEstimate.{mean, signalPower, lowest, highest, decibels, snrOf}
+use Rattle.estimate_snr.specs.MomentEstimate.{mean, signalPower, decibels, snrOf}
 use Rattle.estimate_snr.proofs.EstimateCases.{no-samples}
 
-pub none-value : snrOf [] ≡ lowest
+pub none-value : snrOf [] ≡ neg twenty
 none-value = sym (no-samples [] refl)
 
-pub four-value : snrOf (one ∷ zero ∷ one ∷ zero ∷ one ∷ zero ∷ one ∷ zero ∷ []) ≡ highest
-unfolding snrOf mean signalPower decibels sumFrom sqrt roundRoot isqrt rootDigits add sub sum mul div neg lt round size span climb units ofBits ofFields odd ofInt trailingZeros
+pub four-value : snrOf (one ∷ zero ∷ one ∷ zero ∷ one ∷ zero ∷ one ∷ zero ∷ []) ≡ forty
+unfolding snrOf mean signalPower decibels sumFrom sqrt roundRoot rootDigits add sub sum mul div neg lt round size span climb units ofBits ofFields odd ofInt trailingZeros
 four-value = refl

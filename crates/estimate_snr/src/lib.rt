@@ -1,6 +1,9 @@
 // Module 6 of the scope: the signal-to-noise ratio of interleaved samples, estimated from the second and the fourth moment (M2M4).
 ghost use mathlib.Core.Path.{_≡_};
-ghost use Rattle.estimate_snr.specs.MomentEstimate.{secondMoment, fourthMoment, signalPower, decibels, snrOf};
+ghost use lib.Ieee.{binary32};
+ghost use Rattle.ieee754.specs.Binary64.{square};
+ghost use Rattle.sums.specs.Complex.{normSqr};
+ghost use Rattle.estimate_snr.specs.MomentEstimate.{mean, signalPower, decibels, snrOf};
 
 // The mean power of the samples, and the mean square of the power.
 struct Moments {
@@ -8,9 +11,10 @@ struct Moments {
     m4: f64,
 }
 
-// Each sample's power is an f32; the sums are f64. An odd last number is not read.
+// Each sample's power is an f32, converted by the library's function, which is the hardware's conversion and exact: with ieee754's, which looks for a subnormal
+// first, the loop took an eighth longer. The sums are f64. An odd last number is not read.
 fn mean_powers(samples: &[f32]) -> Moments
-    ensures { λ r. ⌜ (r .m2 ≡ secondMoment (now (samples .entry))) × (r .m4 ≡ fourthMoment (now (samples .entry))) ⌝ }
+    ensures { λ r. ⌜ (r .m2 ≡ mean (normSqr binary32) (now (samples .entry))) × (r .m4 ≡ mean (λ a. square (normSqr binary32 a)) (now (samples .entry))) ⌝ }
 {
     let n = samples.len() / 2;
     let mut m2: f64 = 0.0;
@@ -20,7 +24,7 @@ fn mean_powers(samples: &[f32]) -> Moments
         let p = 2 * k;
         let re = samples[p];
         let im = samples[p + 1];
-        let mag_sq = ieee754::conversion::f32_to_f64(re * re + im * im);
+        let mag_sq = std::num::f32_to_f64_with_nan(re * re + im * im);
         m2 = m2 + mag_sq;
         m4 = m4 + mag_sq * mag_sq;
         k += 1;

@@ -59,7 +59,7 @@ fn next_carriers() -> Carriers {
     }
 }
 
-// A tracker's phases and frequencies, in radians.
+// A tracker's phases, in rad, and frequencies, in rad/s.
 struct Angles {
     x0: f64,
     x1: f64,
@@ -108,7 +108,7 @@ fn next_state() -> State {
     }
 }
 
-// The offset in Hz of a frequency in radians.
+// The offset in Hz of a frequency in rad/s.
 fn offset(x: f64, scale: f64) -> f64 {
     x / scale / 6.283185307179586
 }

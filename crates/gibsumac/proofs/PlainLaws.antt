@@ -28,5 +28,5 @@ pub left-is : (c : Channel) (held : PlainChannel) (b : BlockArgs) (w : List Floa
 unfolding leftC blockedC plainOutcome outcome
 left-is c held b w r p first second windows h s e =
     ap (λ (q : PlainChannel). leftC (record { answer = r .answer; channel = q }) first second windows) e
-    ∙ ap (λ (o : Outcome). plainOutcome o) h
+    ∙ ap (λ (o : Outcome Channel). plainOutcome o) h
     ∙ ap (λ (x : Channel). plainOutcome (blocked x b w)) s

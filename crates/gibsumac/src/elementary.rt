@@ -2,7 +2,8 @@
 ghost use mathlib.Core.Path.{_≡_};
 ghost use lib.Ieee.{binary32, binary64};
 ghost use Rattle.ieee754.specs.SquareRoot.{sqrt};
-ghost use Rattle.ieee754.specs.Hypotenuse.{hypotenuse, hypotenuseAt};
+ghost use Rattle.ieee754.specs.Conversion.{convert};
+ghost use Rattle.ieee754.specs.Hypotenuse.{hypotenuse};
 ghost use Rattle.elementary_sincos.specs.Steps.{sine, cosine};
 ghost use Rattle.elementary_arctangent.specs.Steps.{atan2Of};
 ghost use Rattle.elementary_logarithm.specs.Steps.{log10Of};
@@ -44,7 +45,7 @@ pub extern "C" fn gibsumac_hypot(x: f64, y: f64) -> f64
 
 #[no_mangle]
 pub extern "C" fn gibsumac_hypotf(x: f32, y: f32) -> f32
-    ensures { λ r. ⌜ r ≡ hypotenuseAt binary32 x y ⌝ }
+    ensures { λ r. ⌜ r ≡ convert binary32 (hypotenuse x y) ⌝ }
 {
     ieee754_roots::hypotenuse::hypotf(x, y)
 }

@@ -12,7 +12,7 @@ use Rattle.channel_c_layout.specs.declared.plain_channel.PlainChannel.{PlainCha
 use Rattle.channel_c_layout.specs.Channels.{plainChannel, realChannel, Numbered}
 use Rattle.channel_c_layout.specs.Calls.{plainReturned, plainOutcome, openedC, assignedC, blockedC, releasedC}
 use Rattle.channel_c_layout.proofs.RoundTrip.{struct-back, numbered}
-use Rattle.gibsumac_claims.specs.Exported.{askedC, lentC, calledC, exported}
+use Rattle.gibsumac_claims.specs.Exported.{calledC, exported}
 use Rattle.gibsumac_claims.specs.Demand1C.{refusalOfC, nextC, Demand1C}
 use Rattle.gibsumac_claims.proofs.Seen.{seen, open-seen, call-seen}
 
@@ -25,7 +25,7 @@ of-channel = demand1
 
 -- each call keeps that it has them: all but figures make the struct anew
 next-numbered : (p : PlainChannel) (c : Call) → Numbered p → Numbered (nextC p c)
-unfolding nextC exported calledC askedC lentC assignedC plainReturned releasedC blockedC plainOutcome
+unfolding nextC exported calledC assignedC plainReturned releasedC blockedC plainOutcome
 next-numbered p (ask (assign a)) h = numbered _
 next-numbered p (ask release) h = numbered _
 next-numbered p (ask figures) h = h

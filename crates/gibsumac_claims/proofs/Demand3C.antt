@@ -15,7 +15,7 @@ use Rattle.channel_model.specs.declared.Answer.{Answer}
 use Rattle.channel_model.specs.Calls.{Lend, Call, ask, lend, Memory, Result, model}
 use Rattle.channel_c_layout.specs.declared.plain_channel.PlainChannel.{PlainChannel}
 use Rattle.channel_c_layout.specs.Channels.{realChannel}
-use Rattle.channel_independence.specs.Held.{windowSize, Held, opened, leftAfter, next, compared, answer, HandsBack}
+use Rattle.channel_independence.specs.Held.{Held, justOpened, leftAfter, next, compared, answer, HandsBack}
 use Rattle.channel_independence.specs.Demand3.{OneFrequency, afterOwn, Independent, Demand3, IndependentOfOne, SameCalls}
 use Rattle.channel_independence.proofs.Demand3.{demand3, same-calls}
 use Rattle.channel_independence.proofs.Handed.{all-reached, lend-length}
@@ -47,7 +47,7 @@ channel-same p c = ap (λ (r : Result Channel). r .channel) (call-seen p c)
 left-same : (h : Held PlainChannel) (c : Call) → leftAfter exported h c ≡ leftAfter model (real h) c
 unfolding leftAfter real
 left-same h (ask a) = refl
-left-same h (lend l w) = ap (λ (m : Memory). cond (eqb (length w) windowSize) (some (m .windows)) (h .left)) (memory-same (h .channel) (lend l w))
+left-same h (lend l w) = ap (λ (m : Memory). cond (eqb (length w) 8192) (some (m .windows)) (h .left)) (memory-same (h .channel) (lend l w))
 
 leads : (h : Held PlainChannel) (c : Call) → All h → real (next exported h c) ≡ next model (real h) (same c)
 unfolding next real same
@@ -62,9 +62,9 @@ unfolding HandsBack real same
 hands h (ask a) i x = tt
 hands h (lend l w) i x = x
 
-opened-same : (s : Settings) → real (opened exported s) ≡ opened model s
-unfolding real opened seen
-opened-same s = λ j. record { channel = (ap (λ (r : Result Channel). r .channel) (open-seen s)) j; left = opened model s .left }
+opened-same : (s : Settings) → real (justOpened exported s) ≡ justOpened model s
+unfolding real justOpened seen
+opened-same s = λ j. record { channel = (ap (λ (r : Result Channel). r .channel) (open-seen s)) j; left = justOpened model s .left }
 
 -- ---- whole lists
 
@@ -75,7 +75,7 @@ same-list cs = map-id cs
 own-same : (s : Settings) (own : List Call) → real (afterOwn exported s own) ≡ afterOwn model s own
 unfolding afterOwn
 own-same s own =
-    projected-after (next exported) (next model) real same All (λ h c i. tt) leads (opened exported s) own tt
+    projected-after (next exported) (next model) real same All (λ h c i. tt) leads (justOpened exported s) own tt
     ∙ (λ j. after (next model) (opened-same s j) (same-list own j))
 
 answers-same : (s : Settings) (own cs : List Call)
@@ -108,7 +108,7 @@ unfolding SameCallsC SameCalls IndependentOfOne
 same-callsC s f own₁ own₂ x₁ x₂ calls =
     answers-same s own₁ calls ∙ same-calls s (one-frequency s f) own₁ own₂ x₁ x₂ calls ∙ sym (answers-same s own₂ calls)
 
-windows-stay : (p : PlainChannel) (l : Lend) (w : List Float) → length w ≡ windowSize → length (exported .calls p (lend l w) .memory .windows) ≡ windowSize
+windows-stay : (p : PlainChannel) (l : Lend) (w : List Float) → length w ≡ 8192 → length (exported .calls p (lend l w) .memory .windows) ≡ 8192
 windows-stay p l w e = ap (λ (m : Memory). length (m .windows)) (memory-same p (lend l w)) ∙ lend-length (realChannel p) l w e
 
 pub every-listC : EveryListC

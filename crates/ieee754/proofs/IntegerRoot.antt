@@ -1,4 +1,4 @@
--- The definitions of specs/SquareRoot.antt: `isqrt n` is the whole part of √n, `roundRoot f n` is what a nearest whole root of the leading digits gives, and no value of the format is nearer to √n. Assumes nothing.
+-- The definitions of specs/SquareRoot.antt: `rootDigits (size n) n` is the whole part of √n, `roundRoot f n` is what a nearest whole root of the leading digits gives, and no value of the format is nearer to √n. Assumes nothing.
 use mathlib.Core.Path.{_≡_, refl, sym, ap, _∙_, subst}
 use mathlib.Core.Logic.{_⊎_, inl, inr}
 use mathlib.Core.Bool.{Bool, true, false, not, cond}
@@ -10,7 +10,7 @@ use lib.Pow.{pow-add, pow-pos, pow-mono, pow-lt, shl-lt}
 use lib.Arith.{lt-one}
 use lib.Ieee.{Float, Format, prec, low, size, nearest, units}
 use lib.Ieee.Digits.{size-lt}
-use Rattle.ieee754.specs.SquareRoot.{rootDigits, isqrt, roundRoot}
+use Rattle.ieee754.specs.SquareRoot.{rootDigits, roundRoot}
 use Rattle.ieee754.specs.Code.WholeRoot.{NearestRoot}
 use Rattle.ieee754_rounding.proofs.Comparison.{Cmp, cmp}
 use Rattle.ieee754.proofs.Patterns.{size-is}
@@ -63,8 +63,7 @@ root-whole (suc d) n h =
     two-more : (k : ℕ) → 2 * suc k ≡ 2 + 2 * k
     two-more k = omega arith
 
-pub isqrt-whole : (n : ℕ) → Whole n (isqrt n)
-unfolding isqrt
+pub isqrt-whole : (n : ℕ) → Whole n (rootDigits (size n) n)
 isqrt-whole n = root-whole (size n) n (lt-of-lt-of-le (size-lt n) (pow-mono (dbl (size n))))
   where
     dbl : (k : ℕ) → k ≤ 2 * k
@@ -148,7 +147,7 @@ sq-mul a b = mul-mul-mul-comm a b a b
 
 module _ (f : Format) (M k n : ℕ) (is : n ≡ M * (2 ^ k * 2 ^ k)) (lo : 2 ^ (prec f - 1) * 2 ^ (prec f - 1) ≤ M) (hi : M < 2 ^ prec f * 2 ^ prec f) where
   i : ℕ
-  i = isqrt n
+  i = rootDigits (size n) n
 
   w : Whole n i
   unfolding i

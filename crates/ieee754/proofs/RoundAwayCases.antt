@@ -16,7 +16,8 @@ use lib.Ieee.Nearest.{div-same}
 use lib.Ieee.Back.{whole-unique}
 use Rattle.ieee754_rounding.proofs.Opposites.{neg-round}
 use Rattle.ieee754_rounding.proofs.Comparison.{lt-or-le}
-use Rattle.ieee754.specs.Integral.{wholeAway, roundedAway}
+use Rattle.ieee754.specs.Integral.{roundedAway}
+use Rattle.ieee754.specs.Code.WholeAway.{wholeAway}
 use Rattle.ieee754.proofs.Fields.{signed, infinity, value-low, value-normal, value-top, by-plus, by-minus}
 
 pub away-value : (x : Float) (s : Bool) (n c : ℕ) → 0 < c → HasValue x s n c → wholeAway x ≡ (2 * n + c) / (2 * c)
@@ -138,7 +139,7 @@ unfolding ofInt
 ofInt-is f n = refl
 
 away-is : (f : Format) (x : Float) (s : Bool) (n c : ℕ) → HasValue x s n c → roundedAway f x ≡ round f s (wholeAway x) 1
-unfolding roundedAway
+unfolding roundedAway wholeAway
 away-is f nan s n c v = absurd v
 away-is f (inf t) s n c v = absurd v
 away-is f (fin t m e) s n c v = ap (λ (z : Bool). round f z (wholeAway (fin t m e)) 1) (v .0)

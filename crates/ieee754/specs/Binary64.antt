@@ -95,14 +95,6 @@ million = ofBits binary64 0x412e_8480_0000_0000
 abbrev pub hundredBillion : Float
 hundredBillion = ofBits binary64 0x4237_4876_e800_0000
 
--- -1
-abbrev pub minusOne : Float
-minusOne = ofBits binary64 0xbff0_0000_0000_0000
-
--- -20
-abbrev pub minusTwenty : Float
-minusTwenty = ofBits binary64 0xc034_0000_0000_0000
-
 -- 1.7976931348623157e308, the largest finite f64
 abbrev pub largest : Float
 largest = ofBits binary64 0x7fef_ffff_ffff_ffff

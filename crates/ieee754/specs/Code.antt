@@ -1,3 +1,4 @@
 -- What only private functions and proofs cite.
 pub mod Quotients
+pub mod WholeAway
 pub mod WholeRoot

@@ -5,5 +5,4 @@ use lib.Ieee.{Float, Format, add, rem, lt}
 use Rattle.ieee754.specs.Sign.{absolute, plusZero}
 
 unfoldable pub remEuclid : Format → Float → Float → Float
-unfolding absolute
 remEuclid f x y = cond (lt (rem f x y) plusZero) (add f (rem f x y) (absolute y)) (rem f x y)

@@ -10,18 +10,12 @@ unfoldable pub rootDigits : ℕ → ℕ → ℕ
 rootDigits zero n = 0
 rootDigits (suc d) n = let r = 2 * rootDigits d (n / 4) in cond (leb ((r + 1) * (r + 1)) n) (r + 1) r
 
--- the whole part of √n
-unfoldable pub isqrt : ℕ → ℕ
-unfolding rootDigits size
-isqrt n = rootDigits (size n) n
-
--- The value of the format f that is nearest to √n units of f's smallest value, in the shape of the logic's `round`: of the whole part i the
+-- The value of the format f that is nearest to √n units of f's smallest value, in the shape of the logic's `round`: of the whole part i of √n the
 -- format keeps the `prec` leading digits, q, and drops k. The result is q or q + 1 times 2 ^ k units, by how √n compares with what lies
 -- halfway, (q + 1 / 2) * 2 ^ k. Both sides are squared, and taken four times, so that they are whole numbers.
 unfoldable pub roundRoot : Format → ℕ → Float
-unfolding isqrt size units
 roundRoot f n =
-    let i = isqrt n in
+    let i = rootDigits (size n) n in
     let k = size i - prec f in
     let q = i / 2 ^ k in
     units f false (nearest q (compare (4 * n) ((2 * q + 1) * (2 * q + 1) * (2 ^ k * 2 ^ k)))) k
@@ -29,7 +23,6 @@ roundRoot f n =
 -- The square root. Of either zero it is that zero; below, and of a NaN, it is a NaN. m * 2 ^ e is a whole number of units of 2 ^ -low,
 -- so it is a whole number of their squares, and its root is counted in units.
 unfoldable pub sqrt : Format → Float → Float
-unfolding roundRoot
 sqrt f nan = nan
 sqrt f (inf s) = cond s nan (inf false)
 sqrt f (fin s zero e) = fin s zero e

@@ -3,7 +3,8 @@ ghost use mathlib.Core.Path.{_≡_};
 ghost use mathlib.Core.Bool.{Bool, cond};
 ghost use Prim.Native.Nat.{_+_, _^_, _<_, _≤_};
 ghost use lib.Ieee.{binary64, toUnsigned, ofBits};
-ghost use Rattle.ieee754.specs.Integral.{roundedAway, wholeAway};
+ghost use Rattle.ieee754.specs.Integral.{roundedAway};
+ghost use Rattle.ieee754.specs.Code.WholeAway.{wholeAway};
 
 // Rust's `x as usize`: toward zero, to the nearest end of the range, and 0 for a NaN.
 pub fn to_usize(x: f64) -> usize

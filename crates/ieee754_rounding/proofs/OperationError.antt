@@ -1,5 +1,5 @@
 -- How far each operation can be from the exact result, whatever the signs: absolutely, below a bound on its size, and relatively. For any
--- format. A finite value is p - q units, as in specs/Errors.antt. Assumes nothing.
+-- format. A finite value is p - q units, as in specs/Code/Errors.antt. Assumes nothing.
 use mathlib.Core.Path.{_≡_, sym, ap, _∙_, subst}
 use mathlib.Core.Bool.{Bool, true, false, not, cond}
 use Prim.Native.Nat.{ℕ, suc, _+_, _-_, _*_, _^_, _≤_, _<_}
@@ -12,7 +12,8 @@ use lib.Ieee.Fits.{round-is}
 use lib.Ieee.Exact.{HasValue, units-val}
 use lib.Ieee.Order.{drop, kept}
 use lib.Ieee.Scale.{grid, overflow}
-use Rattle.ieee754_rounding.specs.Errors.{Val, Within, NearVal, distance, RelativeVal}
+use Rattle.ieee754_rounding.specs.Code.Errors.{Val, Within, NearVal, RelativeVal}
+use Rattle.ieee754_rounding.specs.Distance.{distance}
 use Rattle.ieee754_rounding.proofs.RoundingError.{absolute, relative}
 use Rattle.ieee754_rounding.proofs.Values.{plain}
 use Rattle.ieee754_rounding.proofs.OperationRounding.{Rounds, add-rounds, sub-rounds, mul-rounds, div-rounds}

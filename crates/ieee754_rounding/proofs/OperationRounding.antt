@@ -11,7 +11,7 @@ use lib.Ieee.Bits.{cond-no}
 use lib.Ieee.Fits.{down-pos}
 use lib.Ieee.Exact.{HasValue}
 use lib.Ieee.Scale.{round-same}
-use Rattle.ieee754_rounding.specs.Errors.{Val}
+use Rattle.ieee754_rounding.specs.Code.Errors.{Val}
 use Rattle.ieee754_rounding.proofs.Values.{Sized, sized, neg-val}
 
 -- z is p - q over c, rounded once: `round` of the size, with the sign

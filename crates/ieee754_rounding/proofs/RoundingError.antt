@@ -13,7 +13,7 @@ use lib.Ieee.Exact.{HasValue, units-val}
 use lib.Ieee.Nearest.{closest}
 use lib.Ieee.Order.{drop, kept}
 use lib.Ieee.Scale.{grid, overflow, round-val}
-use Rattle.ieee754_rounding.specs.Errors.{Within}
+use Rattle.ieee754_rounding.specs.Code.Errors.{Within}
 use Rattle.ieee754_rounding.proofs.Comparison.{Cmp, cmp}
 
 -- ---- a fraction rounded to a whole number is off by half at most: |c * b - a| ≤ b / 2

@@ -7,7 +7,7 @@ use native.Mathlib.Omega.{arith}
 use lib.Ieee.{Float, nan, inf, fin, Format, low, up, down, neg}
 use lib.Ieee.Fits.{down-pos}
 use lib.Ieee.Exact.{HasValue}
-use Rattle.ieee754_rounding.specs.Errors.{Val}
+use Rattle.ieee754_rounding.specs.Code.Errors.{Val}
 
 -- ---- the same by sign and size
 pub record Sized (f : Format) (x : Float) (p q : ℕ) : Type 0 where

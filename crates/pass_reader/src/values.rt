@@ -25,7 +25,7 @@ pub enum ValuesRead {
 }
 
 // The first n numbers of v as values: there have to be nine, and three of them are switches.
-fn settled(v: [u64; 9], n: usize) -> ValuesRead
+fn values_from(v: [u64; 9], n: usize) -> ValuesRead
     ensures { λ r. ⌜ valuesSaid r ≡ nineValues (take n v) ⌝ }
 {
     if n < 9 {
@@ -69,7 +69,7 @@ fn nine_values(s: &[u8]) -> ValuesRead
         v[k] = x;
         k += 1;
         if end == s.len() {
-            return settled(v, k);
+            return values_from(v, k);
         }
         at = end + 1;
     }

@@ -82,5 +82,5 @@ module _ (line : List ℕ) (old new : List Float) {b : BlockRead} (e : (blockSai
         → (x, after) ≡ printedWith (blockJudged (flagAndSamples line) p w) at out
     unfolding printedWith blockJudged answered outcome
     block-answered flag count d first second after h eb ex =
-        (λ i. (ex i, after)) ∙ ap (λ (o : Outcome). printedWith (answered o p) at out) eb
+        (λ i. (ex i, after)) ∙ ap (λ (o : Outcome Channel). printedWith (answered o p) at out) eb
         ∙ ap (λ (o : Option (ℕ × List Float)). printedWith (blockJudged o p w) at out) (sym (said-taken flag count h))

@@ -19,9 +19,10 @@ use Rattle.pass_stream.specs.Code.Carrying.{lineLength}
 use Rattle.pass_stream.proofs.StreamLaws.{first-line, first-line-rest, no-line, no-line-rest, line-within, rest-chunks, fold-chunks}
 use Rattle.pass_setup.specs.declared.pass.Pass.{Pass}
 use Rattle.pass_setup.specs.Judging.{Judgement, judged}
-use Rattle.pass_setup.specs.Listing.{Run, listed, further, inputEnded, closed, listAfter}
+use Rattle.pass_setup.specs.Listing.{Run, further, inputEnded, listAfter}
 use Rattle.pass_setup.specs.declared.pass.Judged.{Judged}
 use Rattle.pass_setup.specs.declared.pass.Ran.{Ran}
+use Rattle.pass_setup.specs.Code.Steps.{closed}
 use Rattle.pass_setup.specs.Code.Buffers.{Printed, printed, printedWith, asPrinted, ChunkRun, past, lineRun, hasRoom, onlyIf, linesRun, asChunkRun}
 use Rattle.pass_session.proofs.TextLaws.{judged-short, input-ended-short, written-behind, written-length, written-within}
 
@@ -37,7 +38,7 @@ module _ (g : ChunkRun) (line : List ℕ) (room : hasRoom g ≡ true) where
   has-room = leb-true _ _ room
 
   line-waits : waiting (lineRun g line) ≡ further (waiting g) line
-  unfolding lineRun past printedWith printed further listed
+  unfolding lineRun past printedWith printed further
   line-waits =
       let j = judged (g .pass .stage) (g .pass) (g .windows) line in
       let q = written-behind (g .at) (j .0 .text) (g .out) has-room (judged-short (g .pass) (g .pass .stage) (g .windows) line) in
@@ -133,7 +134,7 @@ same-run s (l ∷ ls) g e h k =
 -- a text in two parts
 two-parts : (r : Run) (a b : List ℕ) → listAfter r (a ++ b) ≡ listAfter (fold further r (lines a)) (rest a ++ b)
 unfolding listAfter
-two-parts r a b = λ i. closed (fold-chunks further r a b i) (rest-chunks a b i) .list
+two-parts r a b = λ i. closed (fold-chunks further r a b i) (rest-chunks a b i)
 
 -- A run over a chunk s, of which g .used bytes are used: the list that is to come is the same, whatever comes after the chunk.
 module _ (s : List ℕ) (g : ChunkRun) (h : g .at ≤ length (g .out)) (k : g .used ≤ length s) where
@@ -176,7 +177,7 @@ abbrev pub behind : List ℕ → Run → Run
 behind a r = record { pass = r .pass; windows = r .windows; list = a ++ r .list }
 
 further-behind : (a : List ℕ) (r : Run) (line : List ℕ) → further (behind a r) line ≡ behind a (further r line)
-unfolding further listed
+unfolding further
 further-behind a r line =
     let j = judged (r .pass .stage) (r .pass) (r .windows) line in
     let q = append-assoc a (r .list) (j .0 .text) in
@@ -187,25 +188,24 @@ unfolding fold
 fold-behind a r [] = refl
 fold-behind a r (l ∷ ls) = ap (λ (x : Run). fold further x ls) (further-behind a r l) ∙ fold-behind a (further r l) ls
 
-closed-behind : (a : List ℕ) (r : Run) (left : List ℕ) → closed (behind a r) left .list ≡ a ++ closed r left .list
-unfolding closed listed
+closed-behind : (a : List ℕ) (r : Run) (left : List ℕ) → closed (behind a r) left ≡ a ++ closed r left
 closed-behind a r left = append-assoc a (r .list) (inputEnded (r .pass .stage) (r .pass) left .text)
 
 pub write-listed : (a : List ℕ) (r : Run) (text : List ℕ) → listAfter (behind a r) text ≡ a ++ listAfter r text
 unfolding listAfter
 write-listed a r text =
-    ap (λ (x : Run). closed x (rest text) .list) (fold-behind a r (lines text)) ∙ closed-behind a (fold further r (lines text)) (rest text)
+    ap (λ (x : Run). closed x (rest text)) (fold-behind a r (lines text)) ∙ closed-behind a (fold further r (lines text)) (rest text)
 
 -- ---- the end of the input: what is left has no newline
 
-pub end-listed : (r : Run) (left : List ℕ) → length left ≤ place newline left → listAfter r left ≡ closed r left .list
+pub end-listed : (r : Run) (left : List ℕ) → length left ≤ place newline left → listAfter r left ≡ closed r left
 unfolding listAfter fold
-end-listed r left h = λ i. closed (fold further r (no-line left h i)) (no-line-rest left h i) .list
+end-listed r left h = λ i. closed (fold further r (no-line left h i)) (no-line-rest left h i)
 
 -- and what `finish` leaves in the buffer is that list
 pub end-waits : (p : Pass) (w : List Float) (left : List ℕ) (at : ℕ) (out : List ℕ) → at + longest ≤ length out
-    → take (printed (inputEnded (p .stage) p left) at out .at) (printed (inputEnded (p .stage) p left) at out .out) ≡ closed (record { pass = p; windows = w; list = take at out }) left .list
-unfolding printed closed listed
+    → take (printed (inputEnded (p .stage) p left) at out .at) (printed (inputEnded (p .stage) p left) at out .out) ≡ closed (record { pass = p; windows = w; list = take at out }) left
+unfolding printed
 end-waits p w left at out room = written-behind at (inputEnded (p .stage) p left .text) out room (input-ended-short p (p .stage) left)
 
 pub finished-within : (p : Pass) (left : List ℕ) (at : ℕ) (out : List ℕ) (r : Judged) (out' : List ℕ)

@@ -3,7 +3,7 @@ use mathlib.Core.Path.{_≡_, refl, ap, sym, _∙_}
 use mathlib.Core.Bool.{Bool, true, false, cond}
 use mathlib.Core.List.{List, _++_}
 use mathlib.Core.Option.{Option, none, some}
-use Prim.Native.Nat.{ℕ, zero, suc, _+_, _≤_}
+use Prim.Native.Nat.{ℕ, _+_, _≤_}
 use native.Mathlib.Omega.{arith}
 use lib.Dec.{eqb, leb}
 use lib.ListN.{length, take, drop, length-append, length-drop}
@@ -18,7 +18,7 @@ use Rattle.pass_reader.specs.Bytes.{same}
 use Rattle.pass_writer.specs.Code.Buffers.{longest, laid, written}
 use Rattle.pass_writer.proofs.TextLengths.{short-refusal, short-block}
 use Rattle.pass_setup.specs.declared.pass.Stage.{Stage}
-use Rattle.pass_setup.specs.declared.pass.Stage.the-variants.{Names, Values, BlockNames, Blocks, Ended}
+use Rattle.pass_setup.specs.declared.pass.Stage.the-variants.{Names, Values, BlockNames, Blocks, Stopped}
 use Rattle.pass_setup.specs.declared.pass.Pass.{Pass}
 use Rattle.pass_setup.specs.Opening.{readied}
 use Rattle.pass_setup.specs.Judging.{Judgement, counted, lineRefused, lineTaken, refusedOr, valuesJudged, shownOf, blockTaken, answered, blockJudged, judged}
@@ -36,14 +36,13 @@ module _ (p : Pass) where
   unfolding lineTaken
   taken-short s c = omega arith
 
-  or-short : (n : ℕ) (j : Judgement) → Short j → Short (refusedOr n p j)
-  unfolding refusedOr
-  or-short zero j h = h
-  or-short (suc n) j h = refused-short (suc n)
-
   test-short : (b : Bool) (j k : Judgement) → Short j → Short k → Short (cond b j k)
   test-short true j k h g = h
   test-short false j k h g = g
+
+  or-short : (n : ℕ) (j : Judgement) → Short j → Short (refusedOr n p j)
+  unfolding refusedOr
+  or-short n j h = test-short (eqb n 0) j (lineRefused n p) h (refused-short n)
 
   names-short : (expected line : List ℕ) (s : Stage) → Short (cond (same line expected) (lineTaken s (p .channel) p) (lineRefused outside p))
   names-short expected line s = test-short (same line expected) _ _ (taken-short s (p .channel)) (refused-short outside)
@@ -57,7 +56,7 @@ module _ (p : Pass) where
   unfolding blockTaken
   block-taken-short a c = short-block (counted (p .block)) (shownOf a)
 
-  answered-short : (o : Outcome) → Short (answered o p .0)
+  answered-short : (o : Outcome Channel) → Short (answered o p .0)
   unfolding answered
   answered-short o = or-short (o .answer .refusal) _ (block-taken-short (o .answer) (o .channel))
 
@@ -72,7 +71,7 @@ module _ (p : Pass) where
   judged-short Values w line = values-short (valuesLine line)
   judged-short BlockNames w line = names-short blockNames line Blocks
   judged-short Blocks w line = block-short (flagAndSamples line) w
-  judged-short Ended w line = omega arith
+  judged-short Stopped w line = omega arith
 
   pub input-ended-short : (s : Stage) (left : List ℕ) → Short (inputEnded s p left)
   unfolding inputEnded
@@ -80,7 +79,7 @@ module _ (p : Pass) where
   input-ended-short Values left = refused-short outside
   input-ended-short BlockNames left = refused-short outside
   input-ended-short Blocks left = test-short (eqb (length left) 0) _ _ (omega arith) (refused-short outside)
-  input-ended-short Ended left = omega arith
+  input-ended-short Stopped left = omega arith
 
 -- a text that is written where there is room
 module _ (at : ℕ) (text old : List ℕ) (room : at + longest ≤ length old) (short : length text ≤ longest) where

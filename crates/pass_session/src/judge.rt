@@ -24,6 +24,6 @@ pub fn judge(p: Pass, line: &[u8], windows: &mut [f64], out: &mut [u8], at: usiz
             pass_setup::setup::take_names(p, n, next, out, at)
         }
         Stage::Blocks => crate::block::take_block(p, line, windows, out, at),
-        Stage::Ended => Judged { pass: p, at },
+        Stage::Stopped => Judged { pass: p, at },
     }
 }

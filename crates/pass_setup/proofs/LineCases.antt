@@ -3,7 +3,7 @@ use mathlib.Core.Path.{_≡_, refl, ap, sym, _∙_}
 use mathlib.Core.Bool.{Bool, true, false, cond}
 use mathlib.Core.List.{List, []}
 use mathlib.Core.Option.{Option}
-use Prim.Native.Nat.{ℕ, zero, suc, _+_, _<_, _≤_}
+use Prim.Native.Nat.{ℕ, _+_, _<_, _≤_}
 use native.Mathlib.Omega.{arith}
 use lib.Dec.{eqb, leb, ltb}
 use lib.ListN.{length}
@@ -25,7 +25,7 @@ use Rattle.pass_writer.specs.Lines.{refusalText}
 use Rattle.pass_writer.specs.Code.Buffers.{laid, longest, written}
 use Rattle.pass_writer.proofs.LaidLaws.{laid-nothing}
 use Rattle.pass_setup.specs.declared.pass.Stage.{Stage}
-use Rattle.pass_setup.specs.declared.pass.Stage.the-variants.{Names, Values, BlockNames, Blocks, Ended}
+use Rattle.pass_setup.specs.declared.pass.Stage.the-variants.{Names, Values, BlockNames, Blocks, Stopped}
 use Rattle.pass_setup.specs.declared.pass.Pass.{Pass}
 use Rattle.pass_setup.specs.Opening.{settingsOf, carriersOf, readied}
 use Rattle.pass_setup.specs.Judging.{Judgement, counted, lineRefused, lineTaken, refusedOr, valuesJudged, blockJudged, judged}
@@ -53,11 +53,11 @@ nothing-written at old = go (leb (at + longest) (length old))
 -- a refused line, a line that is taken, and none
 module _ (p : Pass) (at : ℕ) (old : List ℕ) where
   pub refused-printed : (number : ℕ) {line next : ℕ} {new : List ℕ} → line ≡ counted (p .line) → (next, new) ≡ written at (refusalText line number) old
-      → asPrinted (record { pass = record { stage = Ended; line = line; block = p .block; channel = p .channel }; at = next }) new ≡ printed (lineRefused number p) at old
+      → asPrinted (record { pass = record { stage = Stopped; line = line; block = p .block; channel = p .channel }; at = next }) new ≡ printed (lineRefused number p) at old
   unfolding asPrinted printed lineRefused
   refused-printed number e w =
       let x = w ∙ ap (λ (l : ℕ). written at (refusalText l number) old) e in
-      λ i. record { pass = record { stage = Ended; line = e i; block = p .block; channel = p .channel }; at = x i .0; out = x i .1 }
+      λ i. record { pass = record { stage = Stopped; line = e i; block = p .block; channel = p .channel }; at = x i .0; out = x i .1 }
 
   pub taken-printed : (s : Stage) (c : Channel) {q : Pass} → q ≡ lineTaken s c p .pass → asPrinted (record { pass = q; at = at }) old ≡ printed (lineTaken s c p) at old
   unfolding asPrinted printed lineTaken
@@ -74,8 +74,7 @@ printed-as at old e h = e ∙ ap (λ (j : Judgement). printed j at old) h
 module _ (p : Pass) (j : Judgement) where
   pub or-refused : (n : ℕ) → (n ≡ 0 → ⊥) → lineRefused n p ≡ refusedOr n p j
   unfolding refusedOr
-  or-refused zero h = absurd (h refl)
-  or-refused (suc n) h = refl
+  or-refused n h = rw (ne-eqb n 0 h)
 
   pub or-judged : (n : ℕ) → n ≡ 0 → j ≡ refusedOr n p j
   unfolding refusedOr
@@ -143,9 +142,9 @@ module _ (p : Pass) (w : List Float) (line : List ℕ) (at : ℕ) (out : List �
   unfolding judged
   blocks-judged es ex = ex ∙ ap (λ (s : Stage). printedWith (judged s p w line) at out) (sym es)
 
-  pub ended-judged : p .stage ≡ Ended → (asPrinted (record { pass = p; at = at }) out, w) ≡ printedWith (judged (p .stage) p w line) at out
+  pub stopped-judged : p .stage ≡ Stopped → (asPrinted (record { pass = p; at = at }) out, w) ≡ printedWith (judged (p .stage) p w line) at out
   unfolding printedWith judged
-  ended-judged es =
+  stopped-judged es =
       let y = still-printed p at out in
       (λ i. (y i, w)) ∙ ap (λ (s : Stage). printedWith (judged s p w line) at out) (sym es)
 
@@ -173,6 +172,6 @@ module _ (p : Pass) (left : List ℕ) where
   pub ends-cut : p .stage ≡ Blocks → (length left ≡ 0 → ⊥) → lineRefused outside p ≡ inputEnded (p .stage) p left
   ends-cut e h = by-left false (ne-eqb _ _ h) e
 
-  pub ends-ended : p .stage ≡ Ended → record { pass = p; text = [] } ≡ inputEnded (p .stage) p left
+  pub ends-stopped : p .stage ≡ Stopped → record { pass = p; text = [] } ≡ inputEnded (p .stage) p left
   unfolding inputEnded
-  ends-ended e = ap (λ (s : Stage). inputEnded s p left) (sym e)
+  ends-stopped e = ap (λ (s : Stage). inputEnded s p left) (sym e)

@@ -4,8 +4,8 @@
 use mathlib.Core.Bool.{cond}
 use mathlib.Core.List.{List, []}
 use mathlib.Core.Option.{Option, none, some}
-use Prim.Native.Nat.{ℕ, zero, suc, _+_}
-use lib.Dec.{ltb}
+use Prim.Native.Nat.{ℕ, _+_}
+use lib.Dec.{eqb, ltb}
 use lib.Ieee.{Float}
 use Rattle.channel_model.specs.declared.Channel.{Channel}
 use Rattle.channel_model.specs.declared.Answer.{Answer}
@@ -16,7 +16,7 @@ use Rattle.pass_reader.specs.Lines.{outside, names, blockNames, valuesLine, fla
 use Rattle.pass_writer.specs.declared.lines.Shown.{Shown}
 use Rattle.pass_writer.specs.Lines.{blockText, refusalText}
 use Rattle.pass_setup.specs.declared.pass.Stage.{Stage}
-use Rattle.pass_setup.specs.declared.pass.Stage.the-variants.{Names, Values, BlockNames, Blocks, Ended}
+use Rattle.pass_setup.specs.declared.pass.Stage.the-variants.{Names, Values, BlockNames, Blocks, Stopped}
 use Rattle.pass_setup.specs.declared.pass.Pass.{Pass}
 use Rattle.pass_setup.specs.Opening.{readied}
 
@@ -39,16 +39,15 @@ passAfter next blocks c p = record { stage = next; line = counted (p .line); blo
 
 -- the line is refused: the channel stays, and the run ends
 unfoldable pub lineRefused : ℕ → Pass → Judgement
-lineRefused number p = record { pass = passAfter Ended (p .block) (p .channel) p; text = refusalText (counted (p .line)) number }
+lineRefused number p = record { pass = passAfter Stopped (p .block) (p .channel) p; text = refusalText (counted (p .line)) number }
 
 -- the line is taken, and adds nothing
 unfoldable pub lineTaken : Stage → Channel → Pass → Judgement
 lineTaken next c p = record { pass = passAfter next (p .block) c p; text = [] }
 
--- by the refusal number of a call: the line is refused, or where it is 0 judged as given
+-- by the refusal number of a call: judged as given where it is 0, or the line is refused
 unfoldable pub refusedOr : ℕ → Pass → Judgement → Judgement
-refusedOr zero p j = j
-refusedOr (suc k) p j = lineRefused (suc k) p
+refusedOr number p j = cond (eqb number 0) j (lineRefused number p)
 
 -- values open and assign the channel, if their line is in the form
 unfoldable pub valuesJudged : Option (List ℕ) → Pass → Judgement
@@ -65,7 +64,7 @@ unfoldable pub blockTaken : Answer → Channel → Pass → Judgement
 blockTaken a c p = record { pass = passAfter Blocks (counted (p .block)) c p; text = blockText (counted (p .block)) (shownOf a) }
 
 -- with the window memory, as the block call leaves it
-unfoldable pub answered : Outcome → Pass → Judgement × List Float
+unfoldable pub answered : Outcome Channel → Pass → Judgement × List Float
 answered o p = (refusedOr (o .answer .refusal) p (blockTaken (o .answer) (o .channel) p), o .windows)
 
 -- a block's flag and samples go to the channel, if its line is in the form
@@ -79,4 +78,4 @@ judged Names p w line = (cond (same line names) (lineTaken Values (p .channel) p
 judged Values p w line = (valuesJudged (valuesLine line) p, w)
 judged BlockNames p w line = (cond (same line blockNames) (lineTaken Blocks (p .channel) p) (lineRefused outside p), w)
 judged Blocks p w line = blockJudged (flagAndSamples line) p w
-judged Ended p w line = (record { pass = p; text = [] }, w)
+judged Stopped p w line = (record { pass = p; text = [] }, w)

@@ -11,7 +11,7 @@ use Rattle.pass_reader.specs.Lines.{outside}
 use Rattle.pass_writer.specs.Lines.{namesText}
 use Rattle.pass_stream.specs.Stream.{lines, rest}
 use Rattle.pass_setup.specs.declared.pass.Stage.{Stage}
-use Rattle.pass_setup.specs.declared.pass.Stage.the-variants.{Names, Values, BlockNames, Blocks, Ended}
+use Rattle.pass_setup.specs.declared.pass.Stage.the-variants.{Names, Values, BlockNames, Blocks, Stopped}
 use Rattle.pass_setup.specs.declared.pass.Pass.{Pass}
 use Rattle.pass_setup.specs.Judging.{Judgement, newPass, lineRefused, judged}
 
@@ -21,17 +21,11 @@ pub record Run : Type 0 where
   pub windows : List Float
   pub list : List ℕ
 
--- "The line of names is always printed first." The window memory is lent as zeros
-unfoldable pub begun : Run
-begun = record { pass = newPass; windows = replicate 8192 float.zero; list = namesText }
-
--- a judgement's text behind the list so far
-unfoldable pub listed : List ℕ → Judgement × List Float → Run
-listed list j = record { pass = j .0 .pass; windows = j .1; list = list ++ j .0 .text }
-
--- one line further
+-- one line further: what the line adds stands behind the list so far
 unfoldable pub further : Run → List ℕ → Run
-further r line = listed (r .list) (judged (r .pass .stage) (r .pass) (r .windows) line)
+further r line =
+    let j = judged (r .pass .stage) (r .pass) (r .windows) line in
+    record { pass = j .0 .pass; windows = j .1; list = r .list ++ j .0 .text }
 
 -- The end of the input, with what stands after the last newline. "Every line ends with a newline": what is left there is a line outside the form.
 -- "Each of the first three lines, if missing, is outside the form"; blocks may be as many as there are, or none.
@@ -40,15 +34,12 @@ inputEnded Names p left = lineRefused outside p
 inputEnded Values p left = lineRefused outside p
 inputEnded BlockNames p left = lineRefused outside p
 inputEnded Blocks p left = cond (eqb (length left) 0) (record { pass = p; text = [] }) (lineRefused outside p)
-inputEnded Ended p left = record { pass = p; text = [] }
-
-unfoldable pub closed : Run → List ℕ → Run
-closed r left = listed (r .list) (inputEnded (r .pass .stage) (r .pass) left, r .windows)
+inputEnded Stopped p left = record { pass = p; text = [] }
 
 -- the list of a run that goes on with a text, up to its end
 unfoldable pub listAfter : Run → List ℕ → List ℕ
-listAfter r text = closed (fold further r (lines text)) (rest text) .list
+listAfter r text = let e = fold further r (lines text) in e .list ++ inputEnded (e .pass .stage) (e .pass) (rest text) .text
 
--- all that is printed for an input
+-- All that is printed for an input. "The line of names is always printed first." The window memory is lent as zeros
 unfoldable pub listOf : List ℕ → List ℕ
-listOf input = listAfter begun input
+listOf input = listAfter (record { pass = newPass; windows = replicate 8192 float.zero; list = namesText }) input

@@ -1,7 +1,7 @@
 // The end of the input.
 ghost use mathlib.Core.Path.{_≡_};
 ghost use Rattle.pass_setup.specs.Listing.{inputEnded};
-ghost use Rattle.pass_setup.specs.Code.Buffers.{printed, asPrinted, isEnded};
+ghost use Rattle.pass_setup.specs.Code.Buffers.{printed, asPrinted, isStopped};
 use crate::pass::Judged;
 use crate::pass::Pass;
 use crate::pass::Stage;
@@ -21,19 +21,19 @@ pub fn finish(p: Pass, left: &[u8], out: &mut [u8], at: usize) -> Judged
             }
             crate::pass::refuse(p, 13, out, at)
         }
-        Stage::Ended => Judged { pass: p, at },
+        Stage::Stopped => Judged { pass: p, at },
     }
 }
 
 // Whether the run has ended, so that nothing more need be read.
-pub fn is_ended(s: Stage) -> bool
-    ensures { λ r. ⌜ r ≡ isEnded s ⌝ }
+pub fn is_stopped(s: Stage) -> bool
+    ensures { λ r. ⌜ r ≡ isStopped s ⌝ }
 {
     match s {
         Stage::Names => false,
         Stage::Values => false,
         Stage::BlockNames => false,
         Stage::Blocks => false,
-        Stage::Ended => true,
+        Stage::Stopped => true,
     }
 }

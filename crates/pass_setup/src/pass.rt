@@ -10,7 +10,7 @@ pub enum Stage {
     Values,
     BlockNames,
     Blocks,
-    Ended,
+    Stopped,
 }
 
 // How many lines and blocks there were, and the channel.
@@ -75,7 +75,7 @@ pub fn refuse(p: Pass, number: u64, out: &mut [u8], at: usize) -> Judged
 {
     let line = count(p.line);
     let next = pass_writer::lines::refusal_line(out, at, line, number);
-    let stage = Stage::Ended;
+    let stage = Stage::Stopped;
     let channel = p.channel;
     let pass = Pass {
         stage,

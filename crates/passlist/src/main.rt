@@ -89,7 +89,7 @@ fn turn(f: Flow, buf: &mut [u8], windows: &mut [f64], out: &mut [u8]) -> Flow
     let pass = r.pass;
     let at = r.at;
     let stage = pass.stage;
-    if pass_setup::ending::is_ended(stage) {
+    if pass_setup::ending::is_stopped(stage) {
         flush(out, at);
         return Flow {
             pass,

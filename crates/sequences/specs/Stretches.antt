@@ -12,5 +12,4 @@ replaced a n w p = take a w ++ (p ++ drop n (drop a w))
 
 -- what f does to a state and a stretch, done to the state and the whole memory
 unfoldable pub within {ℓ ℓ′} : {S : Type ℓ} {A : Type ℓ′} → ℕ → ℕ → (S × List A → S × List A) → S × List A → S × List A
-unfolding stretch replaced
 within a n f h = (f (h .0, stretch a n (h .1)) .0, replaced a n (h .1) (f (h .0, stretch a n (h .1)) .1))

@@ -1,1 +1,2 @@
 pub mod Survey
+pub mod Code

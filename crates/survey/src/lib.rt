@@ -2,7 +2,8 @@
 ghost use mathlib.Core.Path.{_≡_};
 ghost use mathlib.Core.Bool.{_||_};
 ghost use Rattle.sequences.specs.Pairs.{pairs};
-ghost use Rattle.survey.specs.Survey.{notANumber, clipped, signal, flagOf, surveyOf};
+ghost use Rattle.survey.specs.Survey.{notANumber, clipped, signal, surveyOf};
+ghost use Rattle.survey.specs.Code.Flag.{flagOf};
 
 // What was seen in the pairs so far.
 struct Seen {

@@ -72,7 +72,7 @@ module _ (t : CarrierPllEkf) (p : List Float) (i : ℕ) (noise : Float) (k y v :
 
 module _ (t : CarrierPllEkf) (p : List Float) (i : ℕ) (m : Measured) (pr s : Float) (g : Bool) where
   abbrev Answered : Type 0
-  Answered = (pr ≡ ratio (t .«pr_sum_abs_i») (t .«pr_sum_q_sq»)) × (s ≡ innovationVariance p i (m .«r_effective»)) × (g ≡ takesGain s)
+  Answered = (pr ≡ ratio (t .power .«sum_abs_i») (t .power .«sum_q_sq»)) × (s ≡ innovationVariance p i (m .«r_effective»)) × (g ≡ takesGain s)
 
   pub with-gain : (r : Corrected) (k y : List Float) → Answered → g ≡ true → k ≡ gainOf p i s
       → y ≡ correctedState (t .x) k (m .z) → r ≡ correctedOrLost t p i (m .«r_effective») k y (Kept (m .«norm_re») pr) → r ≡ gained t p i m

@@ -16,14 +16,14 @@ use Rattle.tracker.specs.declared.state.CarrierPllEkf.{CarrierPllEkf}
 use Rattle.tracker.specs.declared.correction.Correction.{Correction}
 use Rattle.tracker.specs.declared.correction.Correction.the-variants.{Kept, Lost}
 use Rattle.tracker.specs.declared.correction.Corrected.{Corrected}
-use Rattle.tracker.specs.State.{changed, zeroState, withState, withLock, lostTracker}
+use Rattle.tracker.specs.State.{trackerOf, zeroState, withState, withLock, lostTracker}
 use Rattle.tracker.specs.Correction.{anyNan, wrappedPhase, limited, correctedOrLost, gained}
 use Rattle.tracker.specs.Lock.{nextMetric, unlocks, settled}
 use Rattle.tracker.specs.Update.{settledBy, settledAfter}
 
 -- the tracker with all else at 0
 abbrev pub frame : CarrierPllEkf → CarrierPllEkf
-frame t = changed t zeroState zero (record { pushed = t .«pr_pushed»; «sum_abs_i» = zero; «sum_q_sq» = zero }) zero false 0
+frame t = trackerOf (t .modulation) (t .tuning) zeroState zero (record { pushed = t .power .pushed; «sum_abs_i» = zero; «sum_q_sq» = zero }) zero false 0
 
 -- u has the frame of t
 pub record SameFrame (t u : CarrierPllEkf) : Type 0 where
@@ -52,7 +52,7 @@ corrected-frame t p i noise k y a =
 pub gained-frame : (t : CarrierPllEkf) (p : List Float) (i : ℕ) (m : Measured) → SameFrame t (gained t p i m .ekf)
 unfolding gained
 gained-frame t p i m =
-    let a = Kept (m .«norm_re») (ratio (t .«pr_sum_abs_i») (t .«pr_sum_q_sq»)) in
+    let a = Kept (m .«norm_re») (ratio (t .power .«sum_abs_i») (t .power .«sum_q_sq»)) in
     let s = innovationVariance p i (m .«r_effective») in
     let k = gainOf p i s in
     let y = correctedState (t .x) k (m .z) in
@@ -65,7 +65,7 @@ settled-frame t n pr =
     let metric = nextMetric (t .«lock_metric») n in
     let guard = t .«convergence_guard» in
     let up = withLock t metric (t .«is_locked») (guard - 1) in
-    let down = withLock t metric (t .«is_locked» && not (unlocks (t .«dual_lock») metric pr)) guard in
+    let down = withLock t metric (t .«is_locked» && not (unlocks (t .tuning .«dual_lock») metric pr)) guard in
     either (λ (u : CarrierPllEkf). u) t (ltb 0 guard) up down (framed t up refl) (framed t down refl)
 
 pub by-frame : (o : Option (Float × Float)) (t : CarrierPllEkf) (p : List Float) → SameFrame t (settledBy o t p .ekf)

@@ -14,31 +14,31 @@ use Rattle.tracker_measurement.specs.Measurement.{measured}
 use Rattle.tracker.specs.declared.state.CarrierPllEkf.{CarrierPllEkf}
 use Rattle.tracker.specs.declared.state.Tracked.{Tracked}
 use Rattle.tracker.specs.declared.correction.Corrected.{Corrected}
-use Rattle.tracker.specs.State.{powerOf, withEnvelope, withPower}
+use Rattle.tracker.specs.State.{withEnvelope, withPower}
 use Rattle.tracker.specs.Correction.{pairOrLost, priorOf, gained, bandCorrected}
 use Rattle.tracker.specs.Update.{settledBy, secondBy, updated, secondCorrected, updatedDual}
 use Rattle.tracker.proofs.Frame.{SameFrame, framed, then, gained-frame, by-frame, after-frame}
 
 -- the count of pairs is a part of the frame
-count : {t u : CarrierPllEkf} → SameFrame t u → u .«pr_pushed» ≡ t .«pr_pushed»
-count h = ap (λ (t : CarrierPllEkf). t .«pr_pushed») (h .same)
+count : {t u : CarrierPllEkf} → SameFrame t u → u .power .pushed ≡ t .power .pushed
+count h = ap (λ (t : CarrierPllEkf). t .power .pushed) (h .same)
 
 -- ---- what two runs have in common
 
 -- two trackers with their windows: the trackers are the same, and the windows agree where they are live
 pub record Together (a b : Tracked × List Float) : Type 0 where
   pub same : a .0 ≡ b .0
-  pub live : Live (a .0 .ekf .«pr_pushed») (a .1) (b .1)
+  pub live : Live (a .0 .ekf .power .pushed) (a .1) (b .1)
 
 -- ---- the correction by the first channel's sample
 
-module _ (t : CarrierPllEkf) (p r q : List Float) (re im : Float) (h : Live (t .«pr_pushed») r q) where
+module _ (t : CarrierPllEkf) (p r q : List Float) (re im : Float) (h : Live (t .power .pushed) r q) where
   m : Measured
   m = measured (priorOf t (phaseOf First)) re im
 
   -- the count and the sums, before the sample's pair
   before : PowerSums
-  before = powerOf t
+  before = t .power
 
   moved : List Float → PowerSums
   moved w = pushed before w (m .«abs_i») (m .«q_sq») .0
@@ -50,11 +50,11 @@ module _ (t : CarrierPllEkf) (p r q : List Float) (re im : Float) (h : Live (t .
   unfolding bandCorrected m before moved after
   first-same = ap after (pushed-same before r q (m .«abs_i») (m .«q_sq») h)
 
-  first-count : (w : List Float) → bandCorrected t p w First re im .0 .ekf .«pr_pushed» ≡ moved w .pushed
+  first-count : (w : List Float) → bandCorrected t p w First re im .0 .ekf .power .pushed ≡ moved w .pushed
   unfolding bandCorrected m before moved
   first-count w = count (gained-frame _ p (phaseOf First) m)
 
-  first-live : Live (bandCorrected t p r First re im .0 .ekf .«pr_pushed») (bandCorrected t p r First re im .1) (bandCorrected t p q First re im .1)
+  first-live : Live (bandCorrected t p r First re im .0 .ekf .power .pushed) (bandCorrected t p r First re im .1) (bandCorrected t p q First re im .1)
   unfolding bandCorrected m before moved
   first-live = rw (first-count r) (pushed-live before r q (m .«abs_i») (m .«q_sq») h)
 
@@ -79,7 +79,7 @@ second-frame none t p re im = framed t _ refl
 
 -- ---- an update
 
-pub updated-together : (t : CarrierPllEkf) (p r q : List Float) (re im : Float) → Live (t .«pr_pushed») r q
+pub updated-together : (t : CarrierPllEkf) (p r q : List Float) (re im : Float) → Live (t .power .pushed) r q
     → Together (updated t p r re im) (updated t p q re im)
 unfolding updated
 updated-together t p r q re im h =
@@ -89,7 +89,7 @@ updated-together t p r q re im h =
       live = rw (count (by-frame (pairOrLost (d .answer)) (d .ekf) (d .p))) (first-live t p r q re im h);
     }
 
-pub dual-together : (t : CarrierPllEkf) (p r q : List Float) (re1 im1 re2 im2 : Float) → Live (t .«pr_pushed») r q
+pub dual-together : (t : CarrierPllEkf) (p r q : List Float) (re1 im1 re2 im2 : Float) → Live (t .power .pushed) r q
     → Together (updatedDual t p r re1 im1 re2 im2) (updatedDual t p q re1 im1 re2 im2)
 unfolding updatedDual
 dual-together t p r q re1 im1 re2 im2 h =

@@ -89,7 +89,7 @@ module _ (n pr a b c e : Float) where
       go false = refl
 
 gained-moved : (t : CarrierPllEkf) (p : List Float) (i : ℕ) (m : Measured)
-    → moved t p i (m .z) (m .«r_effective») (Kept (m .«norm_re») (ratio (t .«pr_sum_abs_i») (t .«pr_sum_q_sq»))) ≡ gained t p i m
+    → moved t p i (m .z) (m .«r_effective») (Kept (m .«norm_re») (ratio (t .power .«sum_abs_i») (t .power .«sum_q_sq»))) ≡ gained t p i m
 unfolding gained moved
 gained-moved t p i m = refl
 
@@ -102,5 +102,5 @@ second-is t p n pr re im d r ed er w =
     let u = withEnvelope t (m .«envelope_ema») in
     ap (λ (x : Tracked). (x, w))
     (er ∙ ap (after n pr) ed
-    ∙ moved-alike n pr n pr (m .«norm_re») (ratio (u .«pr_sum_abs_i») (u .«pr_sum_q_sq»)) u p 3 (m .z) (m .«r_effective»)
+    ∙ moved-alike n pr n pr (m .«norm_re») (ratio (u .power .«sum_abs_i») (u .power .«sum_q_sq»)) u p 3 (m .z) (m .«r_effective»)
     ∙ ap (after n pr) (gained-moved u p 3 m))

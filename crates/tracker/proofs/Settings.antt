@@ -10,7 +10,7 @@ use Rattle.tracker_covariance.specs.declared.states.Band.the-variants.{First, S
 use Rattle.tracker_covariance.specs.States.{phaseOf}
 use Rattle.tracker_measurement.specs.Measurement.{measured}
 use Rattle.tracker.specs.declared.state.CarrierPllEkf.{CarrierPllEkf}
-use Rattle.tracker.specs.State.{changed, zeroState, noPower, withEnvelope, resetTo}
+use Rattle.tracker.specs.State.{trackerOf, zeroState, noPower, withEnvelope, resetTo}
 use Rattle.tracker.specs.Prediction.{predictedOver}
 use Rattle.tracker.specs.Correction.{pairOrLost, priorOf, windowed, bandCorrected}
 use Rattle.tracker.specs.Update.{secondBy, updated, secondCorrected, updatedDual}
@@ -18,7 +18,7 @@ use Rattle.tracker.proofs.Frame.{SameFrame, gained-frame, by-frame, aft
 
 -- the tracker with all else at 0
 abbrev pub settings : CarrierPllEkf → CarrierPllEkf
-settings t = changed t zeroState zero noPower zero false 0
+settings t = trackerOf (t .modulation) (t .tuning) zeroState zero noPower zero false 0
 
 -- u has the settings of t
 pub record Keeps (t u : CarrierPllEkf) : Type 0 where

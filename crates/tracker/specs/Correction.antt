@@ -24,7 +24,7 @@ use Rattle.tracker.specs.declared.state.CarrierPllEkf.{CarrierPllEkf}
 use Rattle.tracker.specs.declared.correction.Correction.{Correction}
 use Rattle.tracker.specs.declared.correction.Correction.the-variants.{Kept, Lost}
 use Rattle.tracker.specs.declared.correction.Corrected.{Corrected}
-use Rattle.tracker.specs.State.{powerOf, withState, withEnvelope, withPower, lostTracker}
+use Rattle.tracker.specs.State.{withState, withEnvelope, withPower, lostTracker}
 
 -- the scope: a correction "answers either the pair of in-phase value and power ratio, or lost". The enum's first case is the pair, its second is lost
 abbrev pub pairOrLost : Correction → Option (Float × Float)
@@ -38,7 +38,7 @@ priorOf t i =
       modulation = t .modulation;
       «theta_pred» = el (t .x) i;
       «lock_metric» = t .«lock_metric»;
-      «r_meas» = t .«r_meas»;
+      «r_meas» = t .tuning .«r_meas»;
       «envelope_ema» = t .«envelope_ema»;
     }
 
@@ -73,7 +73,7 @@ correctedOrLost t p i noise k y kept =
 -- s = P(i,i) + R; where it is not too small, K is column i over s, and otherwise nothing changes. Either way the answer is the pair
 unfoldable pub gained : CarrierPllEkf → List Float → ℕ → Measured → Corrected
 gained t p i m =
-    let kept = Kept (m .«norm_re») (ratio (t .«pr_sum_abs_i») (t .«pr_sum_q_sq»)) in
+    let kept = Kept (m .«norm_re») (ratio (t .power .«sum_abs_i») (t .power .«sum_q_sq»)) in
     let s = innovationVariance p i (m .«r_effective») in
     let k = gainOf p i s in
     cond (takesGain s)
@@ -82,7 +82,7 @@ gained t p i m =
 
 -- only the first channel's pairs enter the window
 abbrev pub windowed : Band → CarrierPllEkf → List Float → Float → Float → CarrierPllEkf × List Float
-windowed First t w i q = let s = pushed (powerOf t) w i q in (withPower t (s .0), s .1)
+windowed First t w i q = let s = pushed (t .power) w i q in (withPower t (s .0), s .1)
 windowed Second t w i q = (t, w)
 
 -- the envelope and the window take the sample in first, whatever becomes of the correction

@@ -26,4 +26,4 @@ settled t inPhase pr =
     let guard = t .«convergence_guard» in
     cond (ltb 0 guard)
     (withLock t metric (t .«is_locked») (guard - 1))
-    (withLock t metric (t .«is_locked» && not (unlocks (t .«dual_lock») metric pr)) guard)
+    (withLock t metric (t .«is_locked» && not (unlocks (t .tuning .«dual_lock») metric pr)) guard)

@@ -19,12 +19,12 @@ noiseScale adaptive metric = cond adaptive (minus one (times float.point9 (clamp
 -- each noise figure times the scale times the interval
 unfoldable pub processNoise : Float → CarrierPllEkf → ProcessNoise
 processNoise dt t =
-    let s = noiseScale (t .«adaptive_ekf») (t .«lock_metric») in
+    let s = noiseScale (t .tuning .«adaptive_ekf») (t .«lock_metric») in
     record {
-      «q_p» = times (times (t .«q_phase») s) dt;
-      «q_f» = times (times (t .«q_freq») s) dt;
-      «q_c» = times (times (t .«q_chirp») s) dt;
-      ratio = t .«frequency_ratio»;
+      «q_p» = times (times (t .tuning .«q_phase») s) dt;
+      «q_f» = times (times (t .tuning .«q_freq») s) dt;
+      «q_c» = times (times (t .tuning .«q_chirp») s) dt;
+      ratio = t .tuning .«frequency_ratio»;
     }
 
 unfoldable pub predictedOver : Float → CarrierPllEkf → List Float → Tracked

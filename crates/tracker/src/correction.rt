@@ -12,7 +12,6 @@ use tracker_covariance::states::phase_index;
 use tracker_measurement::measure::Prior;
 use tracker_measurement::modulation::Modulation;
 use tracker_measurement::modulation::wrap;
-use tracker_power_ratio::PowerSums;
 use tracker_power_ratio::push;
 
 // What a correction answers: the in-phase value and the power ratio, or that the tracker was lost.
@@ -39,7 +38,7 @@ pub fn prior_of(t: CarrierPllEkf, band: Band) -> Prior
         modulation: m,
         theta_pred: x[i],
         lock_metric: t.lock_metric,
-        r_meas: t.r_meas,
+        r_meas: t.tuning.r_meas,
         envelope_ema: t.envelope_ema,
     }
 }
@@ -98,15 +97,8 @@ pub fn enter(t: CarrierPllEkf, w: &mut [f64], abs_i: f64, q_sq: f64) -> CarrierP
     requires { ⌜ length (now w) ≡ 2048 ⌝ }
     ensures { λ r. ⌜ (r, now (w .exit)) ≡ windowed First t (now (w .entry)) «abs_i» «q_sq» ⌝ }
 {
-    let sums = PowerSums {
-        pushed: t.pr_pushed,
-        sum_abs_i: t.pr_sum_abs_i,
-        sum_q_sq: t.pr_sum_q_sq,
-    };
-    let s = push(sums, w, abs_i, q_sq);
+    let s = push(t.power, w, abs_i, q_sq);
     let mut u = t;
-    u.pr_pushed = s.pushed;
-    u.pr_sum_abs_i = s.sum_abs_i;
-    u.pr_sum_q_sq = s.sum_q_sq;
+    u.power = s;
     u
 }

@@ -61,7 +61,7 @@ fn end_first(
 fn apply_first(t: CarrierPllEkf, p: [f64; 36], m: Measured) -> Corrected
     ensures { λ r. ⌜ r ≡ gained t p 0 m ⌝ }
 {
-    let pr = ratio_of(t.pr_sum_abs_i, t.pr_sum_q_sq);
+    let pr = ratio_of(t.power.sum_abs_i, t.power.sum_q_sq);
     let kept = Correction::Kept(m.norm_re, pr);
     let s = innovation_variance(p, Band::First, m.r_effective);
     if takes_gain(s) {

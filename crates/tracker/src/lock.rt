@@ -31,7 +31,7 @@ pub fn settle(t: CarrierPllEkf, norm_re: f64, pr: f64) -> CarrierPllEkf
         u.convergence_guard = guard - 1;
         return u;
     }
-    if unlocks_at(t.dual_lock, metric, pr) {
+    if unlocks_at(t.tuning.dual_lock, metric, pr) {
         u.is_locked = false;
         return u;
     }

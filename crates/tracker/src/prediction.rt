@@ -20,12 +20,12 @@ fn noise_scale(adaptive: bool, lock_metric: f64) -> f64
 pub fn process_noise(t: CarrierPllEkf, dt: f64) -> ProcessNoise
     ensures { λ r. ⌜ r ≡ processNoise dt t ⌝ }
 {
-    let s = noise_scale(t.adaptive_ekf, t.lock_metric);
+    let s = noise_scale(t.tuning.adaptive_ekf, t.lock_metric);
     ProcessNoise {
-        q_p: t.q_phase * s * dt,
-        q_f: t.q_freq * s * dt,
-        q_c: t.q_chirp * s * dt,
-        ratio: t.frequency_ratio,
+        q_p: t.tuning.q_phase * s * dt,
+        q_f: t.tuning.q_freq * s * dt,
+        q_c: t.tuning.q_chirp * s * dt,
+        ratio: t.tuning.frequency_ratio,
     }
 }
 

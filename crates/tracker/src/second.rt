@@ -47,7 +47,7 @@ fn innovation_of(t: CarrierPllEkf, re: f32, im: f32) -> Innovation
     let d = derotate(x[3], s);
     let amp = amplitude_of(s);
     let env = envelope_of(t.envelope_ema, amp);
-    let r_effective = effective_noise(t.r_meas, t.lock_metric, amp, env);
+    let r_effective = effective_noise(t.tuning.r_meas, t.lock_metric, amp, env);
     let error = phase_error(m, d);
     let z = wrap(m, error);
     Innovation {

@@ -5,26 +5,32 @@ ghost use Rattle.ieee754.specs.Binary64.{one};
 ghost use Rattle.tracker.specs.State.{initialTracker, resetTo};
 use tracker_covariance::initial::initial;
 use tracker_measurement::modulation::Modulation;
+use tracker_power_ratio::PowerSums;
 
-// The states, noise figures and lock marks. The window of power pairs is lent memory; pr_pushed says where in it the tracker is.
-pub struct CarrierPllEkf {
-    pub x: [f64; 6],
+// What a tracker is opened with beside its modulation: the source's noise figures, its own interval, the ratio of the two frequencies and two switches.
+#[repr(C)]
+pub struct Tuning {
     pub q_phase: f64,
     pub q_freq: f64,
     pub q_chirp: f64,
     pub r_meas: f64,
     pub ts: f64,
-    pub lock_metric: f64,
-    pub is_locked: bool,
-    pub modulation: Modulation,
-    pub envelope_ema: f64,
+    pub frequency_ratio: f64,
     pub adaptive_ekf: bool,
     pub dual_lock: bool,
-    pub pr_pushed: usize,
-    pub pr_sum_abs_i: f64,
-    pub pr_sum_q_sq: f64,
+}
+
+// A tracker: what it is opened with, and then its states, envelope, power sums and lock. The window of power pairs is lent memory; power says where in it the
+// tracker is.
+pub struct CarrierPllEkf {
+    pub modulation: Modulation,
+    pub tuning: Tuning,
+    pub x: [f64; 6],
+    pub envelope_ema: f64,
+    pub power: PowerSums,
+    pub lock_metric: f64,
+    pub is_locked: bool,
     pub convergence_guard: usize,
-    pub frequency_ratio: f64,
 }
 
 // A tracker and the 36 covariance numbers that travel with it.
@@ -46,24 +52,30 @@ impl CarrierPllEkf {
         ensures { λ r. ⌜ r ≡ initialTracker fs modulation true true one ⌝ }
     {
         let p = initial();
-        let ekf = CarrierPllEkf {
-            x: [0.0; 6],
+        let tuning = Tuning {
             q_phase: 0.1,
             q_freq: 5000.0,
             q_chirp: 10000.0,
             r_meas: 10.0,
             ts: 1.0 / fs,
-            lock_metric: 0.0,
-            is_locked: false,
-            modulation,
-            envelope_ema: 1.0,
+            frequency_ratio: 1.0,
             adaptive_ekf: true,
             dual_lock: true,
-            pr_pushed: 0,
-            pr_sum_abs_i: 0.0,
-            pr_sum_q_sq: 0.0,
+        };
+        let power = PowerSums {
+            pushed: 0,
+            sum_abs_i: 0.0,
+            sum_q_sq: 0.0,
+        };
+        let ekf = CarrierPllEkf {
+            modulation,
+            tuning,
+            x: [0.0; 6],
+            envelope_ema: 1.0,
+            power,
+            lock_metric: 0.0,
+            is_locked: false,
             convergence_guard: 0,
-            frequency_ratio: 1.0,
         };
         Tracked { ekf, p }
     }
@@ -73,18 +85,21 @@ impl CarrierPllEkf {
         ensures { λ r. ⌜ r ≡ resetTo self phase «freq_hz» «chirp_hz_s» ⌝ }
     {
         let p = initial();
-        let r = self.frequency_ratio;
+        let r = self.tuning.frequency_ratio;
         let f = 6.283185307179586 * freq_hz;
         let c = 6.283185307179586 * chirp_hz_s;
         let x = [phase, f, c, phase, f * r, c * r];
+        let power = PowerSums {
+            pushed: 0,
+            sum_abs_i: 0.0,
+            sum_q_sq: 0.0,
+        };
         let mut t = self;
         t.x = x;
+        t.envelope_ema = 1.0;
+        t.power = power;
         t.lock_metric = 0.5;
         t.is_locked = true;
-        t.envelope_ema = 1.0;
-        t.pr_pushed = 0;
-        t.pr_sum_abs_i = 0.0;
-        t.pr_sum_q_sq = 0.0;
         t.convergence_guard = CarrierPllEkf::CONVERGENCE_GUARD;
         Tracked { ekf: t, p }
     }

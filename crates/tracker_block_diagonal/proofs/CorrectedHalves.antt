@@ -8,9 +8,9 @@ use lib.Ieee.Bits.{ofBits-fits}
 use lib.Ieee.Fits.{cond-fits}
 use lib.Ieee.Scale.{finite}
 use lib.Ieee.Positive.{positive, above, above-of-le}
-use Rattle.ieee754.specs.Binary64.{plus, minus, times, zero, tenToMinus12}
+use Rattle.ieee754.specs.Binary64.{plus, minus, times, zero, tenToMinus12, tenToMinus15}
 use Rattle.ieee754.specs.Order.{maximum}
-use Rattle.tracker_covariance.specs.Correction.{gainOf, leastVariance, josephLeft, josephRight, corrected}
+use Rattle.tracker_covariance.specs.Correction.{gainOf, josephLeft, josephRight, corrected}
 use Rattle.tracker_block_diagonal.specs.declared.half.Gain.{Gain}
 use Rattle.tracker_block_diagonal.specs.declared.half.Half.{Half}
 use Rattle.tracker_block_diagonal.specs.Code.Joined.{gains}
@@ -166,10 +166,10 @@ right-second d noise h =
     }
 
 -- the floor keeps what it does not raise
-floor-fits : (x : Float) → T (fits binary64 x) → T (fits binary64 (maximum x leastVariance))
+floor-fits : (x : Float) → T (fits binary64 x) → T (fits binary64 (maximum x tenToMinus15))
 floor-fits x h =
     let l = ofBits-fits binary64 0x3cd2_03af_9ee7_5616 in
-    cond-fits binary64 (isNan x) _ _ l (cond-fits binary64 (lt x leastVariance) _ _ l h)
+    cond-fits binary64 (isNan x) _ _ l (cond-fits binary64 (lt x tenToMinus15) _ _ l h)
 
 pub floored-fits : (d : Half) → Fits d → Fits (halfFloored d)
 floored-fits d h =

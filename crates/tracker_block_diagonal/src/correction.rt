@@ -14,7 +14,7 @@ use crate::prediction::is_finite;
 use tracker_covariance::correction::floor_variance;
 
 // What a correction gives: whether the halves stay apart and a gain is taken, that gain, and the halves after it.
-pub struct Correction {
+pub struct CorrectedHalves {
     pub apart: bool,
     pub k: Gain,
     pub halves: Halves,
@@ -104,7 +104,7 @@ fn shift(h: Half, o: f64) -> Half
 
 // The correction with the noise's variance. The halves stay apart where every factor of a 0 is finite; a sum is finite only where its terms are,
 // and a product where its factors are, so one sum tells it of the noise, the gain and the entries.
-pub fn correct(h: Halves, noise: f64) -> Correction
+pub fn correct(h: Halves, noise: f64) -> CorrectedHalves
     ensures { λ r. ⌜ (r .apart ≡ true → (le tenToMinus12 (absolute (innovationVariance (joined h) 0 noise)) ≡ true) × (gains (r .k) ≡ gainOf (joined h) 0 (innovationVariance (joined h) 0 noise)) × (joined (r .halves) ≡ corrected (joined h) 0 (gains (r .k)) noise)) ⌝ }
 {
     let first = h.first;
@@ -122,5 +122,5 @@ pub fn correct(h: Halves, noise: f64) -> Correction
         first: a,
         second: b,
     };
-    Correction { apart, k, halves }
+    CorrectedHalves { apart, k, halves }
 }

@@ -12,9 +12,10 @@ use lib.ListN.{length, getD, set, length-set}
 use lib.Seq.{getD-set-same, getD-set-other}
 use lib.Ieee.{Float, nan, inf, fin, up, down, lt, le, eq, isNan, ofBits}
 use borrow.Author.Tests.{lt-ltb, le-ltb, eq-eqb, ltb-true, ltb-false, eqb-true, eqb-false}
+use Rattle.ieee754.specs.Binary64.{tenToMinus15}
 use Rattle.ieee754.specs.Order.{maximum}
 use Rattle.tracker_covariance.specs.Matrix.{at}
-use Rattle.tracker_covariance.specs.Correction.{leastVariance, floored}
+use Rattle.tracker_covariance.specs.Correction.{floored}
 use Rattle.sequences.proofs.Choices.{cond-yes, cond-no}
 use Rattle.tracker_covariance.proofs.Filling.{entries, at-place}
 
@@ -78,11 +79,11 @@ lifts m e (fin true n d) h =
 lifts m e (fin false n d) h =
     sym (cond-yes _ _ (lt-ltb _ _ (above (m * up e * down d) (n * up d * down e) h)))
 
-pub kept : (v : Float) → le leastVariance v ≡ true → v ≡ maximum v leastVariance
+pub kept : (v : Float) → le tenToMinus15 v ≡ true → v ≡ maximum v tenToMinus15
 unfolding ofBits
 kept v h = keeps _ _ v h
 
-pub lifted : (v : Float) → le leastVariance v ≡ false → leastVariance ≡ maximum v leastVariance
+pub lifted : (v : Float) → le tenToMinus15 v ≡ false → tenToMinus15 ≡ maximum v tenToMinus15
 unfolding ofBits
 lifted v h = lifts _ _ v h
 
@@ -93,7 +94,7 @@ variance k = eqb (k / 6) (k % 6)
 
 -- number k of P, raised or not
 abbrev raised : List Float → Bool → ℕ → Float
-raised p b k = cond b (maximum (getD p k nan) leastVariance) (getD p k nan)
+raised p b k = cond b (maximum (getD p k nan) tenToMinus15) (getD p k nan)
 
 pub record Raised (p out : List Float) (i : ℕ) : Type 0 where
   pub long : length out ≡ 36
@@ -122,7 +123,7 @@ other i k ne = go (variance k) refl
     go true e = both (eqb-true (k / 6) (k % 6) e) (ltb k (7 * (i + 1))) refl
     go false e = refl
 
-pub raise : (p out : List Float) (i : ℕ) (v : Float) → i < 6 → v ≡ maximum (getD p (7 * i) nan) leastVariance → Raised p out i → Raised p (set out (7 * i) v) (i + 1)
+pub raise : (p out : List Float) (i : ℕ) (v : Float) → i < 6 → v ≡ maximum (getD p (7 * i) nan) tenToMinus15 → Raised p out i → Raised p (set out (7 * i) v) (i + 1)
 raise p out i v l e h =
     record { long = length-set out (7 * i) v ∙ h .long; at = λ k m. go k m (eqb k (7 * i)) refl }
   where
@@ -146,8 +147,8 @@ raise p out i v l e h =
 pub done : (p out : List Float) (i : ℕ) → i ≤ 6 → 6 ≤ i → Raised p out i → out ≡ floored p
 done p out i a b h = entries _ out (h .long) each
   where
-    each : (k : ℕ) → k < 36 → getD out k nan ≡ cond (eqb (k / 6) (k % 6)) (maximum (at p (k / 6) (k % 6)) leastVariance) (at p (k / 6) (k % 6))
+    each : (k : ℕ) → k < 36 → getD out k nan ≡ cond (eqb (k / 6) (k % 6)) (maximum (at p (k / 6) (k % 6)) tenToMinus15) (at p (k / 6) (k % 6))
     each k l =
         h .at k l
         ∙ ap (λ (b : Bool). raised p b k) (ap (λ (b : Bool). variance k && b) (lt-ltb k (7 * i) (omega arith)) ∙ and-true (variance k))
-        ∙ ap (λ (x : Float). cond (variance k) (maximum x leastVariance) x) (sym (at-place p k))
+        ∙ ap (λ (x : Float). cond (variance k) (maximum x tenToMinus15) x) (sym (at-place p k))

@@ -7,12 +7,13 @@ use lib.Dec.{eqb}
 use lib.Ieee.{Float}
 use Rattle.ieee754.specs.Order.{maximum}
 use Rattle.tracker_covariance.specs.declared.prediction.ProcessNoise.{ProcessNoise}
-use Rattle.ieee754.specs.Binary64.{plus, minus, times, half}
+use Rattle.ieee754.specs.Binary64.{plus, minus, times, half, tenToMinus15}
 use Rattle.tracker_covariance.specs.Matrix.{el, at}
 use Rattle.tracker_covariance.specs.Transition.{row, dot, byF, byFt}
 use Rattle.tracker_covariance.specs.ProcessNoise.{noiseMatrix}
-use Rattle.tracker_covariance.specs.Prediction.{sumAt, predicted}
-use Rattle.tracker_covariance.specs.Correction.{leastVariance, floored, josephLeftAt, corrected}
+use Rattle.tracker_covariance.specs.Prediction.{predicted}
+use Rattle.tracker_covariance.specs.Correction.{floored, corrected}
+use Rattle.tracker_covariance.specs.Code.Entries.{sumAt, josephLeftAt}
 use Rattle.tracker_covariance.proofs.Entries.{matrix-at}
 use Rattle.tracker_covariance.proofs.Transition.{dot-agrees}
 
@@ -31,7 +32,7 @@ predicted-at dt n p r c hr hc =
     matrix-at _ r c hr hc ∙ (λ j. times (plus (a r c hr hc j) (a c r hc hr j)) half)
 
 -- the floor is on the diagonal alone
-pub floored-at : (p : List Float) (r c : ℕ) → r < 6 → c < 6 → at (floored p) r c ≡ cond (eqb r c) (maximum (at p r c) leastVariance) (at p r c)
+pub floored-at : (p : List Float) (r c : ℕ) → r < 6 → c < 6 → at (floored p) r c ≡ cond (eqb r c) (maximum (at p r c) tenToMinus15) (at p r c)
 floored-at p r c hr hc = matrix-at _ r c hr hc
 
 -- with B the floored P and T(r,c) = B(r,c) − K(r)·B(i,c), the correction is (T(r,c) − T(r,i)·K(c)) + (K(r)·K(c))·R

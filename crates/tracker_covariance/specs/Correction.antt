@@ -26,28 +26,17 @@ gainOf p i s = vector (λ r. over (at p r i) s)
 unfoldable pub correctedState : List Float → List Float → Float → List Float
 correctedState x k z = vector (λ r. plus (el x r) (times (el k r) z))
 
--- the least variance, 1e-15
-abbrev pub leastVariance : Float
-leastVariance = float.tenToMinus15
-
--- P with each variance raised to the least; a NaN becomes the least, too
+-- P with each variance raised to the least, 1e-15; a NaN becomes the least, too
 abbrev pub floored : List Float → List Float
-floored p = matrix (λ r c. cond (eqb r c) (maximum (at p r c) leastVariance) (at p r c))
+floored p = matrix (λ r c. cond (eqb r c) (maximum (at p r c) float.tenToMinus15) (at p r c))
 
 -- (I − K·h)·P, where h·P is row i of P
-abbrev pub josephLeftAt : List Float → ℕ → List Float → ℕ → ℕ → Float
-josephLeftAt p i k r c = minus (at p r c) (times (el k r) (at p i c))
-
 abbrev pub josephLeft : List Float → ℕ → List Float → List Float
-josephLeft p i k = matrix (josephLeftAt p i k)
+josephLeft p i k = matrix (λ r c. minus (at p r c) (times (el k r) (at p i c)))
 
 -- T·(I − K·h)ᵀ + K·R·Kᵀ, where T·hᵀ is column i of T
-abbrev pub josephRightAt : List Float → ℕ → List Float → Float → ℕ → ℕ → Float
-josephRightAt t i k noise r c =
-    plus (minus (at t r c) (times (at t r i) (el k c))) (times (times (el k r) (el k c)) noise)
-
 abbrev pub josephRight : List Float → ℕ → List Float → Float → List Float
-josephRight t i k noise = matrix (josephRightAt t i k noise)
+josephRight t i k noise = matrix (λ r c. plus (minus (at t r c) (times (at t r i) (el k c))) (times (times (el k r) (el k c)) noise))
 
 -- the floor, which the source applies after the gain was taken, and then (I − K·h)·P·(I − K·h)ᵀ + K·R·Kᵀ, Joseph's form
 unfoldable pub corrected : List Float → ℕ → List Float → Float → List Float

@@ -9,18 +9,12 @@ use Rattle.tracker_covariance.specs.Transition.{byF, byFt}
 use Rattle.tracker_covariance.specs.ProcessNoise.{noiseMatrix}
 
 -- P + Q, all 36 entries
-abbrev pub sumAt : List Float → List Float → ℕ → ℕ → Float
-sumAt p q r c = plus (at p r c) (at q r c)
-
 abbrev pub sumOf : List Float → List Float → List Float
-sumOf p q = matrix (sumAt p q)
+sumOf p q = matrix (λ r c. plus (at p r c) (at q r c))
 
 -- the mean of P and its transpose
-abbrev pub meanAt : List Float → ℕ → ℕ → Float
-meanAt p r c = times (plus (at p r c) (at p c r)) half
-
 abbrev pub meanOf : List Float → List Float
-meanOf p = matrix (meanAt p)
+meanOf p = matrix (λ r c. times (plus (at p r c) (at p c r)) half)
 
 unfoldable pub predicted : Float → ProcessNoise → List Float → List Float
 predicted dt n p = meanOf (sumOf (byFt dt (byF dt p)) (noiseMatrix n))

@@ -1,8 +1,9 @@
 // Correction of the covariance by a measured phase.
 ghost use mathlib.Core.Path.{_≡_};
+ghost use Rattle.ieee754.specs.Binary64.{tenToMinus15};
 ghost use Rattle.ieee754.specs.Order.{maximum};
 ghost use Rattle.tracker_covariance.specs.States.{phaseOf};
-ghost use Rattle.tracker_covariance.specs.Correction.{innovationVariance, takesGain, gainOf, leastVariance, floored};
+ghost use Rattle.tracker_covariance.specs.Correction.{innovationVariance, takesGain, gainOf, floored};
 use crate::states::Band;
 use crate::states::phase_index;
 use ieee754::sign::abs;
@@ -36,7 +37,7 @@ pub fn gain(p: [f64; 36], band: Band, s: f64) -> [f64; 6]
 
 // Rust's `v.max(1e-15)`. The comparison is false for a NaN, which so becomes 1e-15.
 pub fn floor_variance(v: f64) -> f64
-    ensures { λ r. ⌜ r ≡ maximum v leastVariance ⌝ }
+    ensures { λ r. ⌜ r ≡ maximum v tenToMinus15 ⌝ }
 {
     if v >= 1e-15 { v } else { 1e-15 }
 }

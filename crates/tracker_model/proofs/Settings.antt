@@ -7,7 +7,7 @@ use Rattle.sequences.specs.Pairs.{pairs, zip}
 use Rattle.sequences.proofs.FoldLaws.{fold-keeps}
 use Rattle.tracker.specs.declared.state.CarrierPllEkf.{CarrierPllEkf}
 use Rattle.tracker.proofs.Settings.{Keeps, updated-keeps, dual-keeps, predicted-keeps}
-use Rattle.tracker_model.specs.Following.{TrackerWindow, Sample, predicted, corrected, correctedDual, stepped, follow, followDual, followed, followedDual, overLists}
+use Rattle.tracker_model.specs.Following.{TrackerWindow, Sample, predicted, corrected, correctedDual, stepped, follow, followDual, overLists}
 
 -- a correction keeps the settings of what it corrects
 abbrev KeepsSettings : (TrackerWindow → TrackerWindow) → Type 0
@@ -15,9 +15,9 @@ KeepsSettings f = (h : TrackerWindow) → Keeps (h .0 .ekf) (f h .0 .ekf)
 
 -- by whether the tracker is locked, and whether it fades
 by-keeps : (locked fade : Bool) (dt : Float) (f : TrackerWindow → TrackerWindow) (h : TrackerWindow) → KeepsSettings f
-    → Keeps (h .0 .ekf) (cond locked (f (predicted dt h)) (cond fade (predicted (h .0 .ekf .ts) h) h) .0 .ekf)
+    → Keeps (h .0 .ekf) (cond locked (f (predicted dt h)) (cond fade (predicted (h .0 .ekf .tuning .ts) h) h) .0 .ekf)
 by-keeps true fade dt f h keeps = record { same = keeps (predicted dt h) .same ∙ predicted-keeps dt (h .0 .ekf) (h .0 .p) .same }
-by-keeps false true dt f h keeps = predicted-keeps (h .0 .ekf .ts) (h .0 .ekf) (h .0 .p)
+by-keeps false true dt f h keeps = predicted-keeps (h .0 .ekf .tuning .ts) (h .0 .ekf) (h .0 .p)
 by-keeps false false dt f h keeps = record { same = refl }
 
 -- over a list that begins with the tracker t
@@ -37,7 +37,7 @@ follow-dual-keeps dt fade t h s a =
     (by-keeps (h .0 .ekf .«is_locked») fade dt (correctedDual s) h (λ g. dual-keeps (g .0 .ekf) (g .0 .p) (g .1) (s .0 .0) (s .0 .1) (s .1 .0) (s .1 .1)))
 
 pub over-keeps : (two : Bool) (dt : Float) (fade : Bool) (first second : List Float) (h : TrackerWindow) → Keeps (h .0 .ekf) (overLists two dt fade first second h .0 .ekf)
-unfolding overLists followed followedDual
+unfolding overLists
 over-keeps false dt fade first second h =
     fold-keeps (λ (g : TrackerWindow). Keeps (h .0 .ekf) (g .0 .ekf)) (follow dt fade) (λ g s. follow-keeps dt fade (h .0 .ekf) g s) h (pairs first) (record { same = refl })
 over-keeps true dt fade first second h =

@@ -42,7 +42,7 @@ dual-length t p w re1 im1 re2 im2 =
     second-length (pairOrLost (d .0 .answer)) (d .0 .ekf) (d .0 .p) (d .1) re2 im2 ∙ band-length t p w First re1 im1
 
 by-length : (locked fade : Bool) (dt : Float) (f : TrackerWindow → TrackerWindow) (h : TrackerWindow) → ((g : TrackerWindow) → length (f g .1) ≡ length (g .1))
-    → length (cond locked (f (predicted dt h)) (cond fade (predicted (h .0 .ekf .ts) h) h) .1) ≡ length (h .1)
+    → length (cond locked (f (predicted dt h)) (cond fade (predicted (h .0 .ekf .tuning .ts) h) h) .1) ≡ length (h .1)
 by-length true fade dt f h keeps = keeps _
 by-length false true dt f h keeps = refl
 by-length false false dt f h keeps = refl

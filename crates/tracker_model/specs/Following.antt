@@ -32,7 +32,7 @@ correctedDual s h = updatedDual (h .0 .ekf) (h .0 .p) (h .1) (s .0 .0) (s .0 .1)
 
 -- one step with the update u: predicted and corrected where the tracker is locked, predicted where it fades
 unfoldable pub stepped : Float → Bool → (TrackerWindow → TrackerWindow) → TrackerWindow → TrackerWindow
-stepped dt fade u h = cond (h .0 .ekf .«is_locked») (u (predicted dt h)) (cond fade (predicted (h .0 .ekf .ts) h) h)
+stepped dt fade u h = cond (h .0 .ekf .«is_locked») (u (predicted dt h)) (cond fade (predicted (h .0 .ekf .tuning .ts) h) h)
 
 -- one sample
 unfoldable pub follow : Float → Bool → TrackerWindow → Sample → TrackerWindow
@@ -42,14 +42,7 @@ follow dt fade h s = stepped dt fade (corrected s) h
 unfoldable pub followDual : Float → Bool → TrackerWindow → Sample × Sample → TrackerWindow
 followDual dt fade h s = stepped dt fade (correctedDual s) h
 
--- a whole list of samples, and two as far as both go
-unfoldable pub followed : Float → Bool → List Float → TrackerWindow → TrackerWindow
-followed dt fade samples h = fold (follow dt fade) h (pairs samples)
-
-unfoldable pub followedDual : Float → Bool → List Float → List Float → TrackerWindow → TrackerWindow
-followedDual dt fade first second h = fold (followDual dt fade) h (zip (pairs first) (pairs second))
-
--- by whether there are two frequencies
+-- a whole list of samples, or two as far as both go, by whether there are two frequencies
 unfoldable pub overLists : Bool → Float → Bool → List Float → List Float → TrackerWindow → TrackerWindow
-overLists false dt fade first second h = followed dt fade first h
-overLists true dt fade first second h = followedDual dt fade first second h
+overLists false dt fade first second h = fold (follow dt fade) h (pairs first)
+overLists true dt fade first second h = fold (followDual dt fade) h (zip (pairs first) (pairs second))

@@ -12,7 +12,7 @@ use Rattle.tracker_power_ratio.specs.PowerRatio.{ratio}
 use Rattle.tracker.specs.declared.state.CarrierPllEkf.{CarrierPllEkf}
 use Rattle.tracker.specs.declared.correction.Corrected.{Corrected}
 use Rattle.tracker.specs.declared.correction.Correction.the-variants.{Kept}
-use Rattle.tracker.specs.State.{powerOf, withState, withEnvelope, withPower}
+use Rattle.tracker.specs.State.{withState, withEnvelope, withPower}
 use Rattle.tracker.specs.Correction.{priorOf, anyNan, wrappedPhase, limited, windowed, bandCorrected, gained}
 use Rattle.tracker.specs.Lock.{settled}
 use Rattle.tracker.specs.Update.{tracked, updated}
@@ -33,7 +33,7 @@ pub made : (t : CarrierPllEkf) (p w : List Float) (re im : Float) (prior : Prior
     → takesGain (innovationVariance p 0 (m .«r_effective»)) ≡ true → k ≡ gainOf p 0 (innovationVariance p 0 (m .«r_effective»))
     → v ≡ wrappedPhase (correctedState (t .x) k (m .z)) 0 (t .modulation) → b ≡ anyNan v → b ≡ false
     → q ≡ corrected p 0 k (m .«r_effective»)
-    → e ≡ settled (withState u (limited v 0)) (m .«norm_re») (ratio (u .«pr_sum_abs_i») (u .«pr_sum_q_sq»))
+    → e ≡ settled (withState u (limited v 0)) (m .«norm_re») (ratio (u .power .«sum_abs_i») (u .power .«sum_q_sq»))
     → (tracked e q, w₁) ≡ updated t p w re im
 made t p w re im prior m u w₁ k v q b e ep em eu eg ek ev eb hb eq ee =
     let t₁ = withEnvelope t (m .«envelope_ema») in
@@ -41,7 +41,7 @@ made t p w re im prior m u w₁ k v q b e ep em eu eg ek ev eb hb eq ee =
     let eo : u .modulation ≡ t .modulation = modulation-stays t₁ u w w₁ (m .«abs_i») (m .«q_sq») eu in
     let y = correctedState (u .x) k (m .z) in
     let ev₁ : v ≡ wrappedPhase y 0 (u .modulation) = ev ∙ (λ j. wrappedPhase (correctedState (sym ex j) k (m .z)) 0 (sym eo j)) in
-    let pr = ratio (u .«pr_sum_abs_i») (u .«pr_sum_q_sq») in
+    let pr = ratio (u .power .«sum_abs_i») (u .power .«sum_q_sq») in
     let kept = Kept (m .«norm_re») pr in
     let r : Corrected = record { ekf = withState u (limited v 0); p = q; answer = kept } in
     let s = innovationVariance p 0 (m .«r_effective») in

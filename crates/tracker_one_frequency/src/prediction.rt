@@ -9,7 +9,7 @@ use tracker::prediction::process_noise;
 use tracker_covariance::states::predict_state;
 
 pub fn predict(h: Single, dt: f64) -> Single
-    requires { ⌜ Steady dt (h .ekf .«frequency_ratio») ⌝ }
+    requires { ⌜ Steady dt (h .ekf .tuning .«frequency_ratio») ⌝ }
     ensures { λ r. ⌜ whole r ≡ predictedOver dt (h .ekf) (joined (h .halves)) ⌝ }
 {
     let t = h.ekf;

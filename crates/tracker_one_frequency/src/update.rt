@@ -40,9 +40,9 @@ fn move_state(x: [f64; 6], k: Gain, z: f64, m: Modulation) -> [f64; 6]
 
 // The tracker at the states v, within their limits, and its lock.
 fn settle_at(t: CarrierPllEkf, v: [f64; 6], norm_re: f64) -> CarrierPllEkf
-    ensures { λ r. ⌜ r ≡ settled (withState t (limited v 0)) «norm_re» (ratio (t .«pr_sum_abs_i») (t .«pr_sum_q_sq»)) ⌝ }
+    ensures { λ r. ⌜ r ≡ settled (withState t (limited v 0)) «norm_re» (ratio (t .power .«sum_abs_i») (t .power .«sum_q_sq»)) ⌝ }
 {
-    let pr = ratio_of(t.pr_sum_abs_i, t.pr_sum_q_sq);
+    let pr = ratio_of(t.power.sum_abs_i, t.power.sum_q_sq);
     let x = limit(v, Band::First);
     let mut u = t;
     u.x = x;

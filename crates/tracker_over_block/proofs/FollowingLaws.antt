@@ -9,7 +9,8 @@ use lib.ListN.{length, drop, getD}
 use lib.Ieee.{Float, nan}
 use Rattle.sequences.proofs.Choices.{cond-yes, cond-no}
 use Rattle.sequences.proofs.PairLaws.{fold-pairs-next, fold-pairs-end, fold-both-next, fold-both-end}
-use Rattle.tracker_model.specs.Following.{TrackerWindow, Sample, predicted, corrected, correctedDual, stepped, follow, followDual, followed, followedDual, overLists}
+use Rattle.tracker_model.specs.Following.{TrackerWindow, Sample, predicted, corrected, correctedDual, stepped, follow, followDual, overLists}
+use Rattle.tracker_model.specs.Code.OneList.{followed}
 use Rattle.tracker_over_block.proofs.Shorter.{at-most, reaches}
 
 -- by whether the tracker is locked, and whether it fades
@@ -18,7 +19,7 @@ module _ (fade : Bool) (dt : Float) (f : TrackerWindow → TrackerWindow) (h : T
   unfolding stepped
   by-lock k ea er = er ∙ ap f ea ∙ sym (cond-yes _ _ k)
 
-  pub by-fade : {r : TrackerWindow} → h .0 .ekf .«is_locked» ≡ false → fade ≡ true → r ≡ predicted (h .0 .ekf .ts) h → r ≡ stepped dt fade f h
+  pub by-fade : {r : TrackerWindow} → h .0 .ekf .«is_locked» ≡ false → fade ≡ true → r ≡ predicted (h .0 .ekf .tuning .ts) h → r ≡ stepped dt fade f h
   unfolding stepped
   by-fade k e er = er ∙ sym (cond-yes _ _ e) ∙ sym (cond-no _ _ k)
 
@@ -50,7 +51,7 @@ module _ (dt : Float) (fade : Bool) (first second : List Float) (i : ℕ) where
       → (two ≡ true → (s .0 ≡ getD second i nan) × (s .1 ≡ getD second (i + 1) nan))
       → h₁ ≡ cond two (followDual dt fade h ((getD first i nan, getD first (i + 1) nan), s)) (follow dt fade h (getD first i nan, getD first (i + 1) nan))
       → overLists two dt fade (drop (i + 2) first) (drop (i + 2) second) h₁ ≡ overLists two dt fade (drop i first) (drop i second) h
-  unfolding overLists followed followedDual
+  unfolding overLists
   over-next false s h h₁ p q k e = fold-pairs-next first i (follow dt fade) nan p e
   over-next true s h h₁ p q k e =
       fold-both-next first second i (followDual dt fade) nan {s = h} p (q refl)
@@ -58,7 +59,7 @@ module _ (dt : Float) (fade : Bool) (first second : List Float) (i : ℕ) where
 
   pub over-end : (two : Bool) (h : TrackerWindow) (n : ℕ) → n ≡ cond two (cond (ltb (length first) (length second)) (length first) (length second)) (length first)
       → n ≤ i + 1 → overLists two dt fade (drop i first) (drop i second) h ≡ h
-  unfolding overLists followed followedDual
+  unfolding overLists
   over-end false h n e l = fold-pairs-end first i (follow dt fade) h (subst (λ (m : ℕ). m ≤ i + 1) e l)
   over-end true h n e l = fold-both-end first second i (followDual dt fade) h (reaches (length first) (length second) n (i + 1) e l)
 
@@ -71,6 +72,6 @@ within-both true a b n e = let m = at-most a b n e in (m .0, λ h. m .1)
 pub of-one : (two : Bool) (dt : Float) (fade : Bool) (first second : List Float) (at : ℕ) (h h₁ : TrackerWindow) → two ≡ false
     → followed dt fade (drop at first) h₁ ≡ followed dt fade first h
     → overLists two dt fade (drop at first) (drop at second) h₁ ≡ overLists two dt fade first second h
-unfolding overLists
+unfolding overLists followed
 of-one two dt fade first second at h h₁ k e =
     ap (λ (b : Bool). overLists b dt fade (drop at first) (drop at second) h₁) k ∙ e ∙ ap (λ (b : Bool). overLists b dt fade first second h) (sym k)

@@ -4,7 +4,8 @@ ghost use mathlib.Core.Bool.{Bool, cond};
 ghost use Prim.Native.Nat.{_≤_};
 ghost use lib.ListN.{length, drop};
 ghost use Rattle.tracker_one_frequency.specs.Code.Whole.{whole};
-ghost use Rattle.tracker_model.specs.Following.{follow, followed};
+ghost use Rattle.tracker_model.specs.Following.{follow};
+ghost use Rattle.tracker_model.specs.Code.OneList.{followed};
 use tracker_block_diagonal::prediction::is_steady;
 use tracker_one_frequency::prediction::predict;
 use tracker_one_frequency::state::Single;
@@ -18,7 +19,7 @@ fn step_apart(h: Single, w: &mut [f64], re: f32, im: f32, dt: f64) -> Updated
 {
     let t = h.ekf;
     if t.is_locked {
-        if is_steady(dt, t.frequency_ratio) {
+        if is_steady(dt, t.tuning.frequency_ratio) {
             let a = predict(h, dt);
             let b = update(a, w, re, im);
             if b.made {

@@ -28,7 +28,7 @@ pub fn step(
     ensures { λ r. ⌜ (r, now (w .exit)) ≡ cond two (followDual dt fade (h, now (w .entry)) ((re1, im1), (re2, im2))) (follow dt fade (h, now (w .entry)) (re1, im1)) ⌝ }
 {
     let locked = h.ekf.is_locked;
-    let own = h.ekf.ts;
+    let own = h.ekf.tuning.ts;
     if locked | fade {
         let t = h.ekf;
         let p = h.p;

@@ -19,11 +19,7 @@ unfoldable pub pushed : PowerSums → List Float → Float → Float → PowerSu
 pushed s w i q =
     let k = slot (s .pushed) in
     let f = full (s .pushed) in (
-      record {
-        pushed = later (s .pushed);
-        «sum_abs_i» = movedSum f (s .«sum_abs_i») i (absI w k);
-        «sum_q_sq» = movedSum f (s .«sum_q_sq») q (qSq w k);
-      },
+      record { pushed = later (s .pushed); «sum_abs_i» = movedSum f (s .«sum_abs_i») i (absI w k); «sum_q_sq» = movedSum f (s .«sum_q_sq») q (qSq w k) },
       withPair w k i q,
     )
 

@@ -5,6 +5,7 @@ ghost use Rattle.tracker_power_ratio.specs.Ring.{later};
 ghost use Rattle.tracker_power_ratio.specs.PowerRatio.{notNegative, movedSum, pushed, ratio};
 
 // The pairs pushed since the last reset, up to 2,047 and then from 1,024 on again; and the sums over the latest 1,024 of them.
+#[repr(C)]
 pub struct PowerSums {
     pub pushed: usize,
     pub sum_abs_i: f64,

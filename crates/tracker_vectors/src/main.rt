@@ -66,16 +66,20 @@ fn next_before(dual_lock: bool, guard: u64) -> Before {
     let p = next_matrix();
     let new = CarrierPllEkf::new(1000.0, m);
     let mut t = new.ekf;
+    let mut tuning = t.tuning;
+    let mut power = t.power;
     t.x = x;
     t.is_locked = locked;
-    t.dual_lock = dual_lock;
+    tuning.dual_lock = dual_lock;
     t.convergence_guard = guard as usize;
-    t.r_meas = next_f64();
+    tuning.r_meas = next_f64();
     t.lock_metric = next_f64();
     t.envelope_ema = next_f64();
-    t.pr_sum_abs_i = next_f64();
-    t.pr_sum_q_sq = next_f64();
-    t.pr_pushed = next_whole() as usize;
+    power.sum_abs_i = next_f64();
+    power.sum_q_sq = next_f64();
+    power.pushed = next_whole() as usize;
+    t.tuning = tuning;
+    t.power = power;
     let abs_i = next_f64();
     let q_sq = next_f64();
     Before {
@@ -108,9 +112,9 @@ fn tracker_is_next(t: CarrierPllEkf, p: [f64; 36]) -> bool {
     let c = matrix_is_next(p);
     let d = is_next(t.lock_metric);
     let e = is_next(t.envelope_ema);
-    let f = is_next(t.pr_sum_abs_i);
-    let g = is_next(t.pr_sum_q_sq);
-    let h = is_next_whole(least(t.pr_pushed, 1024) as u64);
+    let f = is_next(t.power.sum_abs_i);
+    let g = is_next(t.power.sum_q_sq);
+    let h = is_next_whole(least(t.power.pushed, 1024) as u64);
     a & b & c & d & e & f & g & h
 }
 
@@ -125,15 +129,17 @@ fn predict_holds() -> bool {
     let p = next_matrix();
     let new = CarrierPllEkf::new(1000.0, Modulation::Carrier);
     let mut t = new.ekf;
+    let mut tuning = t.tuning;
     t.x = x;
-    t.q_phase = next_f64();
-    t.q_freq = next_f64();
-    t.q_chirp = next_f64();
-    t.ts = next_f64();
+    tuning.q_phase = next_f64();
+    tuning.q_freq = next_f64();
+    tuning.q_chirp = next_f64();
+    tuning.ts = next_f64();
     t.lock_metric = next_f64();
-    t.frequency_ratio = next_f64();
-    t.adaptive_ekf = next_whole() == 1;
-    let r = t.predict(p, t.ts);
+    tuning.frequency_ratio = next_f64();
+    tuning.adaptive_ekf = next_whole() == 1;
+    t.tuning = tuning;
+    let r = t.predict(p, tuning.ts);
     let y = r.ekf.x;
     let q = r.p;
     let a = six_are_next(y);
@@ -161,7 +167,7 @@ fn first_holds() -> bool {
     let s = next_sample();
     let t = b.ekf;
     let p = b.p;
-    let fill = t.pr_pushed;
+    let fill = t.power.pushed;
     let mut w = window_of(fill, b.abs_i, b.q_sq);
     let r = correct_by_first(t, p, &mut w, s.0, s.1);
     let k = 2 * (fill % 1024);
@@ -191,7 +197,7 @@ fn second_holds() -> bool {
     let s = next_sample();
     let t = b.ekf;
     let p = b.p;
-    let fill = t.pr_pushed;
+    let fill = t.power.pushed;
     let w = window_of(fill, b.abs_i, b.q_sq);
     let r = correct_by_second(t, p, 0.0, 0.0, s.0, s.1);
     let k = 2 * (fill % 1024);
@@ -218,7 +224,7 @@ fn update_holds() -> bool {
     let s = next_sample();
     let t = b.ekf;
     let p = b.p;
-    let fill = t.pr_pushed;
+    let fill = t.power.pushed;
     let mut w = window_of(fill, b.abs_i, b.q_sq);
     let r = t.update(p, &mut w, false, s.0, s.1, 0.0, 0.0);
     let k = 2 * (fill % 1024);
@@ -238,7 +244,7 @@ fn dual_holds() -> bool {
     let s2 = next_sample();
     let t = b.ekf;
     let p = b.p;
-    let fill = t.pr_pushed;
+    let fill = t.power.pushed;
     let mut w = window_of(fill, b.abs_i, b.q_sq);
     let r = t.update(p, &mut w, true, s1.0, s1.1, s2.0, s2.1);
     let k = 2 * (fill % 1024);
@@ -257,7 +263,7 @@ fn reset_holds() -> bool {
     let chirp = next_f64();
     let new = CarrierPllEkf::new(1000.0, Modulation::Carrier);
     let mut t = new.ekf;
-    t.frequency_ratio = ratio;
+    t.tuning.frequency_ratio = ratio;
     let r = t.reset(phase, freq, chirp);
     let u = r.ekf;
     let q = r.p;

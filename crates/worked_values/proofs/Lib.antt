@@ -1,3 +1,4 @@
 pub mod RatesAndFades
 pub mod PassExample
+pub mod PassListed
 pub mod Proved

@@ -13,14 +13,15 @@ use Rattle.tracker_model.specs.Following.{TrackerWindow}
 -- the parts of a tracker besides its states and its modulation: floats, counts, marks
 abbrev pub floatsOf : CarrierPllEkf → List Float
 floatsOf t =
-    t .«q_phase» ∷ t .«q_freq» ∷ t .«q_chirp» ∷ t .«r_meas» ∷ t .ts ∷ t .«lock_metric» ∷ t .«envelope_ema» ∷ t .«pr_sum_abs_i»
-    ∷ t .«pr_sum_q_sq» ∷ t .«frequency_ratio» ∷ []
+    let k = t .tuning in
+    k .«q_phase» ∷ k .«q_freq» ∷ k .«q_chirp» ∷ k .«r_meas» ∷ k .ts ∷ k .«frequency_ratio» ∷ t .«envelope_ema»
+    ∷ t .power .«sum_abs_i» ∷ t .power .«sum_q_sq» ∷ t .«lock_metric» ∷ []
 
 abbrev pub countsOf : CarrierPllEkf → ℕ × ℕ
-countsOf t = (t .«pr_pushed», t .«convergence_guard»)
+countsOf t = (t .power .pushed, t .«convergence_guard»)
 
 abbrev pub switchesOf : CarrierPllEkf → Bool × Bool × Bool
-switchesOf t = (t .«is_locked», t .«adaptive_ekf», t .«dual_lock»)
+switchesOf t = (t .«is_locked», t .tuning .«adaptive_ekf», t .tuning .«dual_lock»)
 
 -- the stretches of the three trackers are equal
 pub record Level (w : List Float) : Type 0 where

@@ -14,7 +14,9 @@ new-requires : tie.Need-new-requires
 new-requires c κs = search needs
 
 returns : tie.Need-returns
-returns c = tracker-is (c .before .before .before .before .before .args .s) (c .before .before .before .before .decimated-rate .ensures) (c .before .before .before .modulation-of .ensures) (c .before .before .new .ensures)
+returns c =
+    let n = c .before .before .before .before .before in
+    tracker-is (n .before .before .before .args .s) (n .before .before .decimated-rate .ensures) (n .before .modulation-of .ensures) (n .new .ensures)
 
 pub new-tracker-spec : {M : Type 1} → statement M
 new-tracker-spec =

@@ -7,8 +7,9 @@ use lib.Ieee.Compare.{differs-from-itself}
 use Rattle.ieee754.specs.Sign.{absolute, signBit, signed}
 use Rattle.ieee754.proofs.Fields.{yes, equals-itself, nan-no}
 use Rattle.elementary_arctangent.specs.Promise.{Arctangent}
-use Rattle.elementary_arctangent.specs.Steps.{upperAngle, atan2Of}
-use Rattle.elementary_arctangent.proofs.Cases.{promise-holds}
+use Rattle.elementary_arctangent.specs.Steps.{atan2Of}
+use Rattle.elementary_arctangent.specs.Code.Tests.{upperAngle, atan2ByTests}
+use Rattle.elementary_arctangent.proofs.Cases.{by-tests, promise-holds}
 use Rattle.elementary_arctangent.proofs.atan2.Statement.{statement}
 use Rattle.elementary_arctangent.proofs.atan2.Tie as tie
 
@@ -18,20 +19,22 @@ held-y c = subst T (sym (c .good .0 .1)) tt
 held-x : (c : tie.Start) → T (fits binary64 (c .args .x))
 held-x c = subst T (sym (c .good .1 .0 .1)) tt
 
--- the promise holds of the steps, so it holds of what is equal to them
-both : (c : tie.Start) {v : Float} → v ≡ atan2Of (c .args .y) (c .args .x) → (v ≡ atan2Of (c .args .y) (c .args .x)) × Arctangent (c .args .y) (c .args .x) v
-both c e = (e, subst (Arctangent (c .args .y) (c .args .x)) (sym e) (promise-holds (c .args .y) (c .args .x) (held-y c) (held-x c)))
+-- the tests come to the steps, and the promise holds of these, so it holds of what is equal to them
+both : (c : tie.Start) {v : Float} → v ≡ atan2ByTests (c .args .y) (c .args .x) → (v ≡ atan2Of (c .args .y) (c .args .x)) × Arctangent (c .args .y) (c .args .x) v
+both c t =
+    let e = t ∙ sym (by-tests (c .args .y) (c .args .x)) in
+    (e, subst (Arctangent (c .args .y) (c .args .x)) (sym e) (promise-holds (c .args .y) (c .args .x) (held-y c) (held-x c)))
 
-y-nan : (y x : Float) → y ≡ nan → y ≡ atan2Of y x
-unfolding atan2Of isNan
+y-nan : (y x : Float) → y ≡ nan → y ≡ atan2ByTests y x
+unfolding atan2ByTests isNan
 y-nan y x e = rw e
 
-x-nan : (y x : Float) → isNan y ≡ false → x ≡ nan → x ≡ atan2Of y x
-unfolding atan2Of isNan
+x-nan : (y x : Float) → isNan y ≡ false → x ≡ nan → x ≡ atan2ByTests y x
+unfolding atan2ByTests isNan
 x-nan y x p e = rw (p, e)
 
-steps-are : (y x : Float) {r : Float} → isNan y ≡ false → isNan x ≡ false → r ≡ signed (signBit y) (upperAngle (signBit x) (absolute y) (absolute x)) → r ≡ atan2Of y x
-unfolding atan2Of
+steps-are : (y x : Float) {r : Float} → isNan y ≡ false → isNan x ≡ false → r ≡ signed (signBit y) (upperAngle (signBit x) (absolute y) (absolute x)) → r ≡ atan2ByTests y x
+unfolding atan2ByTests
 steps-are y x p q e =
     e
     ∙ sym (ap (λ (k : Bool). cond (k || isNan x) nan (signed (signBit y) (upperAngle (signBit x) (absolute y) (absolute x)))) p ∙ ap (λ (k : Bool). cond k nan (signed (signBit y) (upperAngle (signBit x) (absolute y) (absolute x)))) q)

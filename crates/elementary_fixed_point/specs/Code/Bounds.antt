@@ -1,6 +1,6 @@
 -- Module 2: the bounds by which steps in fixed point are proved: of the float that is converted, of the two that are divided, of the entries of a
--- table, and how near a fixed-point number is to a fraction. Definitions only.
-use Prim.Native.Nat.{ℕ, _+_, _*_, _^_, _≤_, _<_}
+-- table, of a term of a series, and how near a fixed-point number is to a fraction. Definitions only.
+use Prim.Native.Nat.{ℕ, _+_, _-_, _*_, _^_, _≤_, _<_}
 use mathlib.Core.Bool.{Bool, true, false, _&&_}
 use mathlib.Core.List.{List, [], _∷_}
 use lib.Dec.{T, ltb}
@@ -26,6 +26,10 @@ pub record Proper (a b : Float) : Type 0 where
   pub right : T (nonnegative b)
   pub above : 0 < num b
   pub upto : num a * den b ≤ num b * den a
+
+-- the term of degree j of a series with the coefficients k j, at a / b, times b ^ d
+abbrev pub term : (ℕ → ℕ) → ℕ → ℕ → ℕ → ℕ → ℕ
+term k d a b j = k j * a ^ j * b ^ (d - j)
 
 -- each entry is below k
 unfoldable pub below : ℕ → List ℕ → Bool

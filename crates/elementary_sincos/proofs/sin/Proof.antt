@@ -6,7 +6,7 @@ use lib.Dec.{T}
 use lib.Ieee.{Float, lt}
 use Rattle.elementary_fixed_point.specs.Conversion.{fixed}
 use Rattle.elementary_fixed_point.specs.Code.Bounds.{Fixable}
-use Rattle.elementary_sincos.specs.Steps.{small}
+use Rattle.ieee754.specs.Binary64.{twoToMinus16}
 use Rattle.elementary_sincos.proofs.Cases.{of-nan, of-small, Known, known, fourth-below, of-large, sine-is}
 use Rattle.elementary_sincos.proofs.sin.Statement.{statement}
 use Rattle.elementary_sincos.proofs.sin.Tie as tie
@@ -29,7 +29,7 @@ returns-2 c =
     let s1 = a .before .before in
     let s = s1 .before in
     let r = s1 .remainder .result in
-    sine-is (s .args .theta) r r (subst T (sym (s .good .0 .1)) tt) (s1 .remainder .ensures) (of-small r (subst (λ (z : Float). lt z small ≡ true) (a .abs .ensures) (c .if2 .taken)))
+    sine-is (s .args .theta) r r (subst T (sym (s .good .0 .1)) tt) (s1 .remainder .ensures) (of-small r (subst (λ (z : Float). lt z twoToMinus16 ≡ true) (a .abs .ensures) (c .if2 .taken)))
 
 -- past the first test the remainder is finite
 finite : (a : tie.After-abs) → Known (a .before .before .remainder .result)
@@ -65,7 +65,7 @@ returns-3 c =
     let r = s1 .remainder .result in
     sine-is (s .args .theta) r (c .sine .result) (subst T (sym (s .good .0 .1)) tt) (s1 .remainder .ensures)
     (of-large r (finite a) (x .from-f64 .result) (h1 .high-product .result) (h2 .high-product2 .result) (x .from-f64 .ensures ∙ ap fixed (a .abs .ensures)) (h1 .high-product .ensures) (h2 .high-product2 .ensures)
-    (c .sine .result) (subst (λ (z : Float). lt z small ≡ false) (a .abs .ensures) (x .before .if2 .left)) (c .sine .ensures))
+    (c .sine .result) (subst (λ (z : Float). lt z twoToMinus16 ≡ false) (a .abs .ensures) (x .before .if2 .left)) (c .sine .ensures))
 
 pub sin-spec : {M : Type 1} → statement M
 sin-spec =

@@ -7,7 +7,8 @@ use lib.Dec.{T}
 use lib.Ieee.{Float, lt}
 use Rattle.elementary_fixed_point.specs.Conversion.{fixed}
 use Rattle.elementary_fixed_point.specs.Code.Bounds.{Fixable}
-use Rattle.elementary_sincos.specs.Steps.{small, cosine}
+use Rattle.elementary_sincos.specs.Steps.{cosine}
+use Rattle.ieee754.specs.Binary64.{twoToMinus16}
 use Rattle.elementary_sincos.proofs.Cases.{of-nan, of-small, Known, known, fourth-below, of-large, of-cosine, sine-is, cosine-is}
 use Rattle.elementary_sincos.proofs.sin_cos.Statement.{statement}
 use Rattle.elementary_sincos.proofs.sin_cos.Tie as tie
@@ -75,7 +76,7 @@ returns-2 c =
     let s1 = a .before .before in
     let s = s1 .before in
     let r = s1 .remainder .result in
-    (sine-is (s .args .theta) r r (fits s) (s1 .remainder .ensures) (of-small r (subst (λ (z : Float). lt z small ≡ true) (a .abs .ensures) (c .if2 .taken))) .0, cosine-done k)
+    (sine-is (s .args .theta) r r (fits s) (s1 .remainder .ensures) (of-small r (subst (λ (z : Float). lt z twoToMinus16 ≡ true) (a .abs .ensures) (c .if2 .taken))) .0, cosine-done k)
 
 sine-requires : tie.Need-sine-requires
 sine-requires c κs = fourth (c .before .before)
@@ -93,7 +94,7 @@ returns-3 c =
     let v = c .sine .result in (
       sine-is (s .args .theta) r v (fits s) (s1 .remainder .ensures)
           (of-large r (finite a) (x .from-f64 .result) (h1 .high-product .result) (h2 .high-product2 .result) (x .from-f64 .ensures ∙ ap fixed (a .abs .ensures)) (h1 .high-product .ensures) (h2 .high-product2 .ensures) v
-          (subst (λ (z : Float). lt z small ≡ false) (a .abs .ensures) (c .before .if2 .left)) (c .sine .ensures))
+          (subst (λ (z : Float). lt z twoToMinus16 ≡ false) (a .abs .ensures) (c .before .if2 .left)) (c .sine .ensures))
           .0,
       cosine-done k,
     )

@@ -3,16 +3,19 @@ use mathlib.Core.Path.{_≡_, _∙_}
 use Prim.Native.Nat.{_*_, _-_, _/_, _%_, _≤_}
 use native.Mathlib.Omega.{arith}
 use lib.ListN.{length, take, length-set}
+use lib.IntN.{pos}
+use lib.Ieee.{binary64, ofInt}
+use Rattle.sums.specs.Complex.{divC}
 use Rattle.sums.specs.Interleaved.{table}
 use Rattle.sums.proofs.Tables.{table-start, table-next, table-end}
-use Rattle.estimate_correlation.specs.Correlation.{prepared, correlation, correlationMatrix}
+use Rattle.estimate_correlation.specs.Correlation.{prepared, lagSum, correlationMatrix}
 use Rattle.estimate_correlation.proofs.UpperLaws.{mirrored-is, quotient-is}
 use borrow.Author.Needs.{needs}
 use Rattle.estimate_correlation.proofs.correlation_matrix.Statement.{statement}
 use Rattle.estimate_correlation.proofs.correlation_matrix.Tie as tie
 
 abbrev Inv-loop : tie.InvT-loop
-Inv-loop x l squared n s r-xx₀ p₀ r-xx p = (take (2 * p) r-xx ≡ table p (λ p. correlation (prepared squared x) l (p / 10) (p % 10))) × (p ≤ 100) × (length r-xx ≡ 200)
+Inv-loop x l squared n s r-xx₀ p₀ r-xx p = (take (2 * p) r-xx ≡ table p (λ p. divC binary64 (lagSum (prepared squared x) l (p / 10) (p % 10)) (ofInt binary64 (pos l)))) × (p ≤ 100) × (length r-xx ≡ 200)
 
 abbrev μ-loop : tie.MeasureT-loop
 μ-loop x l squared n s r-xx₀ p₀ r-xx p = 100 - p

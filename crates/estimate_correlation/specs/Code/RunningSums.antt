@@ -42,6 +42,10 @@ termAdded row w a j = addC binary64 (at row j) (mulC binary64 a (conj (at w j)))
 abbrev pub rowAdded : List Float → List Float → ℕ → List Float
 rowAdded s w i = take (2 * i) (rowOf s i) ++ table (10 - i) (termAdded (drop (2 * i) (rowOf s i)) (drop (2 * i) w) (at w i))
 
+-- what place k adds to the sum for lag i and lag j
+abbrev pub lagProduct : List Float → ℕ → ℕ → ℕ → Cx
+lagProduct xs i j k = mulC binary64 (at xs (k + 9 - i)) (conj (at xs (k + 9 - j)))
+
 abbrev pub upperEntry : List Float → ℕ → ℕ → ℕ → Cx
 upperEntry xs l i j = cond (ltb j i) (zeroC binary64) (lagSum xs l i j)
 

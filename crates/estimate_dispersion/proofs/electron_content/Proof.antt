@@ -4,13 +4,17 @@ use mathlib.Core.Bool.{true, false}
 use borrow.Author.Needs.{needs}
 use borrow.Author.Tests.{not-true, not-false}
 use lib.Ieee.{Float, binary64, sub, lt, eq, ne}
-use Rattle.ieee754.specs.Binary64.{zero}
+use Rattle.ieee754.specs.Binary64.{minus, times, over, square, zero, tenToMinus6, electronScale}
 use Rattle.ieee754.specs.Sign.{absolute}
-use Rattle.estimate_dispersion.specs.Dispersion.{nearLimit, electronContent, contentOf}
+use Rattle.estimate_dispersion.specs.Dispersion.{electronContent}
 use Rattle.estimate_dispersion.proofs.electron_content.Statement.{statement}
 use Rattle.estimate_dispersion.proofs.electron_content.Tie as tie
 
 module _ (f1 f2 theta1 theta2 old : Float) where
+  -- what the carriers tell
+  abbrev content : Float
+  content = absolute (times (times electronScale (over (times (square f1) (square f2)) (minus (square f1) (square f2)))) (minus (over theta1 f1) (over theta2 f2)))
+
   first-zero : eq f1 zero ≡ true → old ≡ electronContent f1 f2 theta1 theta2 old
   unfolding electronContent ne
   first-zero h = rw h
@@ -21,11 +25,11 @@ module _ (f1 f2 theta1 theta2 old : Float) where
     second-zero h = rw (h1, h)
 
     module _ (h2 : eq f2 zero ≡ false) {apart : Float} (e : apart ≡ absolute (sub binary64 f1 f2)) where
-      too-near : lt nearLimit apart ≡ false → old ≡ electronContent f1 f2 theta1 theta2 old
+      too-near : lt tenToMinus6 apart ≡ false → old ≡ electronContent f1 f2 theta1 theta2 old
       unfolding electronContent ne
       too-near h = rw (h1, h2, ← e, h)
 
-      told : lt nearLimit apart ≡ true → {r : Float} → r ≡ contentOf f1 f2 theta1 theta2 → r ≡ electronContent f1 f2 theta1 theta2 old
+      told : lt tenToMinus6 apart ≡ true → {r : Float} → r ≡ content → r ≡ electronContent f1 f2 theta1 theta2 old
       unfolding electronContent ne
       told h er = rw (h1, h2, ← e, h) er
 
@@ -46,7 +50,6 @@ abs-requires-2 : tie.Need-abs-requires-2
 abs-requires-2 c κs = search needs
 
 returns-4 : tie.Need-returns-4
-unfolding contentOf
 returns-4 c =
     let b = c .before in
     told _ _ _ _ _ (b .before .before .before .if1 .left) (b .before .before .if2 .left) (b .before .abs .ensures) (not-false _ (b .if3 .left))

@@ -2,20 +2,20 @@
 use mathlib.Core.Path.{_≡_, ap}
 use Prim.Native.Nat.{_-_, _≤_}
 use native.Mathlib.Omega.{arith}
-use lib.Ieee.{Float, binary64, add, mul}
-use Rattle.ieee754.specs.Binary64.{zero}
+use lib.Ieee.{Float, binary32, binary64, add, mul}
+use Rattle.ieee754.specs.Binary64.{square, zero}
 use Rattle.sums.specs.Ascending.{sumFrom}
+use Rattle.sums.specs.Complex.{normSqr}
 use Rattle.sums.specs.Interleaved.{at}
 use Rattle.sums.proofs.Adding.{sum-start, sum-next}
-use Rattle.estimate_snr.specs.MomentEstimate.{power, squaredPower}
 use Rattle.estimate_snr.proofs.EstimateCases.{mean-is}
 use borrow.Author.Needs.{needs}
 use Rattle.estimate_snr.proofs.mean_powers.Statement.{statement}
 use Rattle.estimate_snr.proofs.mean_powers.Tie as tie
 
 abbrev Inv-loop : tie.InvT-loop
-Inv-loop samples n m2₀ m4₀ k₀ m2 m4 k = (m2 ≡ sumFrom (add binary64) zero (λ k. power (at samples k)) k)
-    × (m4 ≡ sumFrom (add binary64) zero (λ k. squaredPower (at samples k)) k)
+Inv-loop samples n m2₀ m4₀ k₀ m2 m4 k = (m2 ≡ sumFrom (add binary64) zero (λ k. normSqr binary32 (at samples k)) k)
+    × (m4 ≡ sumFrom (add binary64) zero (λ k. square (normSqr binary32 (at samples k))) k)
     × (k ≤ n)
 
 abbrev μ-loop : tie.MeasureT-loop
@@ -42,8 +42,8 @@ mul-im c = search needs
 shared-slice-read-im : tie.Need-shared-slice-read-im Inv-loop μ-loop
 shared-slice-read-im c = search needs
 
-f32-to-f64-requires : tie.Need-f32-to-f64-requires Inv-loop μ-loop
-f32-to-f64-requires c κs = search needs
+f32-to-f64-with-nan-requires : tie.Need-f32-to-f64-with-nan-requires Inv-loop μ-loop
+f32-to-f64-with-nan-requires c κs = search needs
 
 add-k : tie.Need-add-k Inv-loop μ-loop
 add-k c = search needs
@@ -53,7 +53,7 @@ loop-less c = search needs
 
 loop-again : tie.Need-loop-again Inv-loop μ-loop
 loop-again c = let l = c .before .before .before .before .loop in
-    let e = c .f32-to-f64 .ensures in
+    let e = c .f32-to-f64-with-nan .ensures in
     (sum-next _ _ _ _ (l .inv .0) e, sum-next _ _ _ _ (l .inv .1) (ap (λ (x : Float). mul binary64 x x) e), omega arith)
 
 u64-to-f64-requires : tie.Need-u64-to-f64-requires Inv-loop μ-loop
@@ -77,7 +77,7 @@ mean-powers-spec =
     add-im
     mul-im
     shared-slice-read-im
-    f32-to-f64-requires
+    f32-to-f64-with-nan-requires
     add-k
     loop-less
     loop-again

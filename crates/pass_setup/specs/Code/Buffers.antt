@@ -7,7 +7,7 @@ use lib.ListN.{length}
 use lib.Ieee.{Float}
 use Rattle.pass_writer.specs.Code.Buffers.{longest, written}
 use Rattle.pass_setup.specs.declared.pass.Stage.{Stage}
-use Rattle.pass_setup.specs.declared.pass.Stage.the-variants.{Names, Values, BlockNames, Blocks, Ended}
+use Rattle.pass_setup.specs.declared.pass.Stage.the-variants.{Names, Values, BlockNames, Blocks, Stopped}
 use Rattle.pass_setup.specs.declared.pass.Pass.{Pass}
 use Rattle.pass_setup.specs.declared.pass.Judged.{Judged}
 use Rattle.pass_setup.specs.declared.pass.Ran.{Ran}
@@ -64,9 +64,9 @@ unfoldable pub asChunkRun : Ran → List Float → List ℕ → ChunkRun
 asChunkRun r windows out = record { pass = r .pass; windows = windows; used = r .used; at = r .at; out = out }
 
 -- whether the run has ended
-unfoldable pub isEnded : Stage → Bool
-isEnded Names = false
-isEnded Values = false
-isEnded BlockNames = false
-isEnded Blocks = false
-isEnded Ended = true
+unfoldable pub isStopped : Stage → Bool
+isStopped Names = false
+isStopped Values = false
+isStopped BlockNames = false
+isStopped Blocks = false
+isStopped Stopped = true

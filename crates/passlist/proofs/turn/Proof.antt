@@ -18,8 +18,8 @@ slice-aggregate-run c = sym (length-take-le _ _ (c .before .before .before .befo
 run-requires : tie.Need-run-requires
 run-requires c κs = search needs
 
-is-ended-requires : tie.Need-is-ended-requires
-is-ended-requires c κs = search needs
+is-stopped-requires : tie.Need-is-stopped-requires
+is-stopped-requires c κs = search needs
 
 flush-requires : tie.Need-flush-requires
 flush-requires c κs = ran-within _ _ _ _ _ (c .before .before .before .before .before .before .before .before .run .result) _ _ (c .before .before .before .before .before .before .before .before .run .ensures) (c .before .before .before .before .before .before .before .before .before .before .before .before .before .before .before .before .pre .list)
@@ -69,7 +69,9 @@ same-length-7 : tie.Need-same-length-7
 same-length-7 c = search needs
 
 same-length-8 : tie.Need-same-length-8
-same-length-8 c = search needs
+same-length-8 c =
+    let r = c .before .before .before .before .before .before .before .before .before .before .before .before .before .before .before .before .before .before .before .before .run in
+    search (needs, r .kept .1 .1 .0)
 
 same-length-9 : tie.Need-same-length-9
 same-length-9 c = search needs
@@ -84,7 +86,7 @@ turn-spec =
     slice-reshare-prefix-run
     slice-aggregate-run
     run-requires
-    is-ended-requires
+    is-stopped-requires
     flush-requires
     same-length
     same-length-2

@@ -1,5 +1,5 @@
 -- `survey::flag_of` meets its contract, by its tests. Assumes nothing.
-use Rattle.survey.specs.Survey.{flagOf}
+use Rattle.survey.specs.Code.Flag.{flagOf}
 use Rattle.survey.proofs.flag_of.Statement.{statement}
 use Rattle.survey.proofs.flag_of.Tie as tie
 

@@ -10,7 +10,8 @@ use lib.Ieee.{Float, nan}
 use Rattle.sequences.specs.Pairs.{pairs}
 use Rattle.sequences.specs.Folds.{some}
 use Rattle.sequences.proofs.PairLaws.{pairs-next, pairs-none, some-pairs-next, some-pairs-end}
-use Rattle.survey.specs.Survey.{notANumber, clipped, signal, flagOf, surveyOf}
+use Rattle.survey.specs.Survey.{notANumber, clipped, signal, surveyOf}
+use Rattle.survey.specs.Code.Flag.{flagOf}
 use Rattle.survey.proofs.survey.Statement.{statement}
 use Rattle.survey.proofs.survey.Tie as tie
 
@@ -19,7 +20,7 @@ abbrev Left : (Float × Float → Bool) → List Float → Bool → ℕ → Type
 Left p xs m i = (m || some p (pairs (drop i xs))) ≡ some p (pairs xs)
 
 some-pair : (xs : List Float) → 2 ≤ length xs → flagOf (some notANumber (pairs xs)) (some clipped (pairs xs)) (some signal (pairs xs)) ≡ surveyOf (pairs xs)
-unfolding surveyOf
+unfolding surveyOf flagOf
 some-pair xs h = rw (pairs-next xs 0 nan (omega arith)) refl
 
 no-pair : (xs : List Float) → length xs < 2 → 4 ≡ surveyOf (pairs xs)

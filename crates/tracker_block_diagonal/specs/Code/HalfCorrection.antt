@@ -1,8 +1,7 @@
 -- Correction by the first channel's phase with the variance R (the scope, module 3): what it makes of each half. Definitions only.
 use lib.Ieee.{Float}
 use Rattle.ieee754.specs.Order.{maximum}
-use Rattle.ieee754.specs.Binary64.{plus, minus, times, over}
-use Rattle.tracker_covariance.specs.Correction.{leastVariance}
+use Rattle.ieee754.specs.Binary64.{plus, minus, times, over, tenToMinus15}
 use Rattle.tracker_block_diagonal.specs.declared.half.Gain.{Gain}
 use Rattle.tracker_block_diagonal.specs.declared.half.Half.{Half}
 
@@ -14,15 +13,15 @@ halfGain h s = record { p = over (h .pp) s; f = over (h .fp) s; c = over (h .cp)
 abbrev pub halfFloored : Half → Half
 halfFloored h =
     record {
-      pp = maximum (h .pp) leastVariance;
+      pp = maximum (h .pp) tenToMinus15;
       pf = h .pf;
       pc = h .pc;
       fp = h .fp;
-      ff = maximum (h .ff) leastVariance;
+      ff = maximum (h .ff) tenToMinus15;
       fc = h .fc;
       cp = h .cp;
       cf = h .cf;
-      cc = maximum (h .cc) leastVariance;
+      cc = maximum (h .cc) tenToMinus15;
     }
 
 -- (I − K·h)·P, where h·P is the phase's row

@@ -50,14 +50,4 @@ halfMean n h =
     let pf = meanOfTwo (plus (h .pf) zero) (plus (h .fp) zero) in
     let pc = meanOfTwo (plus (h .pc) zero) (plus (h .cp) zero) in
     let fc = meanOfTwo (plus (h .fc) zero) (plus (h .cf) zero) in
-    record {
-      pp = meanOfTwo p p;
-      pf = pf;
-      pc = pc;
-      fp = pf;
-      ff = meanOfTwo f f;
-      fc = fc;
-      cp = pc;
-      cf = fc;
-      cc = meanOfTwo c c;
-    }
+    record { pp = meanOfTwo p p; pf = pf; pc = pc; fp = pf; ff = meanOfTwo f f; fc = fc; cp = pc; cf = fc; cc = meanOfTwo c c }

@@ -3,7 +3,7 @@ use Prim.Native.Nat.{_≤_, _<_, _+_, _-_, _*_}
 use mathlib.Core.Path.{refl}
 use native.Mathlib.Omega.{arith}
 use borrow.Author.Needs.{needs}
-use Rattle.tracker_covariance.specs.Correction.{josephLeftAt}
+use Rattle.tracker_covariance.specs.Code.Entries.{josephLeftAt}
 use Rattle.tracker_covariance.proofs.Filling.{Rows, no-rows, store-entry, next-row, all-rows}
 use Rattle.tracker_joseph.proofs.left_of_second.Statement.{statement}
 use Rattle.tracker_joseph.proofs.left_of_second.Tie as tie

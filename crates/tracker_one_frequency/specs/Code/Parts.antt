@@ -18,30 +18,14 @@ received v re im =
     let s = used (v .modulation) re im in
     let amp = amplitude s in
     let env = envelope (v .«envelope_ema») amp in
-    record {
-      point = derotated (v .«theta_pred») s;
-      «envelope_ema» = env;
-      «r_effective» = effectiveNoise (v .«r_meas») (v .«lock_metric») amp env;
-    }
+    record { point = derotated (v .«theta_pred») s; «envelope_ema» = env; «r_effective» = effectiveNoise (v .«r_meas») (v .«lock_metric») amp env }
 
 unfoldable pub detected : Modulation → Point → Detected
 detected m d =
     let n = folded m d in
-    record {
-      error = phaseError m d;
-      z = wrapped m (phaseError m d);
-      «abs_i» = absolute (n .re);
-      «q_sq» = mul binary64 (n .im) (n .im);
-    }
+    record { error = phaseError m d; z = wrapped m (phaseError m d); «abs_i» = absolute (n .re); «q_sq» = mul binary64 (n .im) (n .im) }
 
 -- the parts together
 abbrev pub together : Received → Detected → Float → Measured
 together a d inPhase =
-    record {
-      z = d .z;
-      «norm_re» = inPhase;
-      «abs_i» = d .«abs_i»;
-      «q_sq» = d .«q_sq»;
-      «envelope_ema» = a .«envelope_ema»;
-      «r_effective» = a .«r_effective»;
-    }
+    record { z = d .z; «norm_re» = inPhase; «abs_i» = d .«abs_i»; «q_sq» = d .«q_sq»; «envelope_ema» = a .«envelope_ema»; «r_effective» = a .«r_effective» }

@@ -20,7 +20,11 @@ follow-on-requires-2 : tie.Need-follow-on-requires-2
 follow-on-requires-2 c κs = search needs
 
 follow-on-requires-3 : tie.Need-follow-on-requires-3
-follow-on-requires-3 c κs = search needs
+follow-on-requires-3 c κs =
+    let second = c .before .before .before in
+    let first = second .before .before .before .before in
+    let start = first .before .before .before .before .before .before .before .before in
+    search (needs, second .follow-on2 .kept .1 .1 .1 .1 .0, first .follow-on .kept .1 .1 .1 .1 .0, start .pre)
 
 same-length : tie.Need-same-length
 same-length c = search needs

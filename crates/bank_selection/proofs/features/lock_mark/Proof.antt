@@ -1,14 +1,11 @@
 -- `lock_mark`, locked and not.
-use Rattle.bank_model.specs.Features.{lockMark}
 use Rattle.bank_selection.proofs.features.lock_mark.Statement.{statement}
 use Rattle.bank_selection.proofs.features.lock_mark.Tie as tie
 
 returns : tie.Need-returns
-unfolding lockMark
 returns c = rw (c .if1 .taken)
 
 returns-2 : tie.Need-returns-2
-unfolding lockMark
 returns-2 c = rw (c .if1 .left)
 
 pub lock-mark-spec : {M : Type 1} → statement M

@@ -1,5 +1,5 @@
 use borrow.Author.Needs.{needs}
-use Rattle.channel_c_layout.specs.Channels.{plainChannelWith, plainChannel}
+use Rattle.channel_c_layout.specs.Channels.{plainChannel}
 use Rattle.channel_c_layout.proofs.plain_channel.to_plain_channel.Statement.{statement}
 use Rattle.channel_c_layout.proofs.plain_channel.to_plain_channel.Tie as tie
 
@@ -20,14 +20,7 @@ is-idle-requires c κs = search needs
 
 returns : tie.Need-returns
 unfolding plainChannel
-returns c =
-    let a = c .before .before .before .before .before .before .before .before .before .args .c in
-    λ j.
-    plainChannelWith a (c .before .before .before .before .before .before .before .to-plain .ensures j)
-    (c .before .before .before .before .before .before .to-plain2 .ensures j)
-    (c .before .before .before .before .before .to-plain3 .ensures j)
-    (c .before .before .before .before .to-plain4 .ensures j)
-    (c .before .before .before .is-idle .ensures j)
+returns c = cc
 
 pub to-plain-channel-spec : {M : Type 1} → statement M
 to-plain-channel-spec =

@@ -1,5 +1,5 @@
 use borrow.Author.Needs.{needs}
-use Rattle.channel_c_layout.specs.Channels.{realChannelWith, realChannel}
+use Rattle.channel_c_layout.specs.Channels.{realChannel}
 use Rattle.channel_c_layout.proofs.plain_channel.to_real_channel.Statement.{statement}
 use Rattle.channel_c_layout.proofs.plain_channel.to_real_channel.Tie as tie
 
@@ -20,14 +20,7 @@ status-of-requires c κs = search needs
 
 returns : tie.Need-returns
 unfolding realChannel
-returns c =
-    let a = c .before .before .before .before .before .args .c in
-    λ j.
-    realChannelWith a (c .before .before .before .before .to-real .ensures j)
-    (c .before .before .before .to-real2 .ensures j)
-    (c .before .before .to-real3 .ensures j)
-    (c .before .to-real4 .ensures j)
-    (c .status-of .ensures j)
+returns c = cc
 
 pub to-real-channel-spec : {M : Type 1} → statement M
 to-real-channel-spec =

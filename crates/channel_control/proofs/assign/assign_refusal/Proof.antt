@@ -1,6 +1,7 @@
 -- `assign_refusal`: 5 before 6.
 use mathlib.Core.Path.{sym, _∙_}
 use borrow.Author.Tests.{not-true, not-false}
+use Rattle.channel_model.specs.Refusals.{firstCause}
 use Rattle.channel_model.specs.Assigning.{assignRefusal}
 use borrow.Author.Needs.{needs}
 use Rattle.channel_control.proofs.assign.assign_refusal.Statement.{statement}
@@ -13,13 +14,13 @@ is-idle-requires : tie.Need-is-idle-requires
 is-idle-requires c κs = search needs
 
 returns : tie.Need-returns
-unfolding assignRefusal
+unfolding assignRefusal firstCause
 returns c =
     let good = c .before .before .good-carriers in
     rw (sym (good .ensures) ∙ not-true (good .result) (c .if1 .taken))
 
 returns-2 : tie.Need-returns-2
-unfolding assignRefusal
+unfolding assignRefusal firstCause
 returns-2 c =
     let good = c .before .before .before .good-carriers in
     let free = c .before .before .is-idle in
@@ -29,7 +30,7 @@ returns-2 c =
     )
 
 returns-3 : tie.Need-returns-3
-unfolding assignRefusal
+unfolding assignRefusal firstCause
 returns-3 c =
     let good = c .before .before .before .good-carriers in
     let free = c .before .before .is-idle in

@@ -1,7 +1,7 @@
 -- `block_refusal`: the first of the six tests that holds.
 use mathlib.Core.Path.{sym, _∙_}
 use borrow.Author.Tests.{lt-ltb, le-ltb, eq-eqb, ne-eqb, not-true, not-false}
-use Rattle.channel_model.specs.Refusals.{refusalBy, blockRefusal}
+use Rattle.channel_model.specs.Refusals.{firstCause, badLength, blockRefusal}
 use borrow.Author.Needs.{needs}
 use Rattle.channel_quiet_block.proofs.refusals.block_refusal.Statement.{statement}
 use Rattle.channel_quiet_block.proofs.refusals.block_refusal.Tie as tie
@@ -16,17 +16,17 @@ bad-second-requires : tie.Need-bad-second-requires
 bad-second-requires c κs = search needs
 
 returns : tie.Need-returns
-unfolding blockRefusal refusalBy
+unfolding blockRefusal firstCause badLength
 returns c = rw (lt-ltb _ _ (c .if1 .taken))
 
 returns-2 : tie.Need-returns-2
-unfolding blockRefusal refusalBy
+unfolding blockRefusal firstCause badLength
 returns-2 c =
     let d = c .before .before in
     rw (le-ltb _ _ (c .before .if1 .left), sym (d .before .before .bad-lengths .ensures) ∙ c .if2 .taken)
 
 returns-3 : tie.Need-returns-3
-unfolding blockRefusal refusalBy
+unfolding blockRefusal firstCause badLength
 returns-3 c =
     let d = c .before .before .before in
     rw (
@@ -36,7 +36,7 @@ returns-3 c =
     )
 
 returns-4 : tie.Need-returns-4
-unfolding blockRefusal refusalBy
+unfolding blockRefusal firstCause badLength
 returns-4 c =
     let d = c .before .before .before .before in
     rw (
@@ -50,7 +50,7 @@ both-in-range-requires : tie.Need-both-in-range-requires
 both-in-range-requires c κs = search needs
 
 returns-5 : tie.Need-returns-5
-unfolding blockRefusal refusalBy
+unfolding blockRefusal firstCause badLength
 returns-5 c =
     let d = c .before .before .before .before .before .before in
     rw (
@@ -62,7 +62,7 @@ returns-5 c =
     )
 
 returns-6 : tie.Need-returns-6
-unfolding blockRefusal refusalBy
+unfolding blockRefusal firstCause badLength
 returns-6 c =
     let d = c .before .before .before .before .before .before .before in
     rw (
@@ -75,7 +75,7 @@ returns-6 c =
     )
 
 returns-7 : tie.Need-returns-7
-unfolding blockRefusal refusalBy
+unfolding blockRefusal firstCause badLength
 returns-7 c =
     let d = c .before .before .before .before .before .before .before in
     rw (

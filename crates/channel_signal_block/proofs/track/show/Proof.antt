@@ -15,14 +15,14 @@ show-bank-requires c κs = search needs
 
 returns : tie.Need-returns
 returns c =
-    shown-bank _ _ (c .before .before .before .if1 .taken) (c .before .before .scale-for .ensures) (c .before .finish .ensures)
+    shown-bank _ (c .before .before .before .if1 .taken) (c .before .before .scale-for .ensures) (c .before .finish .ensures)
     (c .show-bank .ensures)
 
 show-single-requires : tie.Need-show-single-requires
 show-single-requires c κs = search needs
 
 returns-2 : tie.Need-returns-2
-returns-2 c = shown-single _ _ (c .before .if1 .left) (c .show-single .ensures)
+returns-2 c = shown-single _ (c .before .if1 .left) (c .show-single .ensures)
 
 pub show-spec : {M : Type 1} → statement M
 show-spec =

@@ -14,7 +14,7 @@ read-from-requires c κs = search needs
 returns : tie.Need-returns
 unfolding moved
 returns c =
-    single-locked (c .before .before .before .before .before .args .c) _ (c .before .before .scale-for .ensures) (c .before .if1 .taken)
+    single-locked (c .before .before .before .before .before .args .c) (c .before .before .scale-for .ensures) (c .before .if1 .taken)
     (c .read-from .ensures)
 
 phase-of-requires : tie.Need-phase-of-requires
@@ -26,7 +26,7 @@ centre-requires c κs = search needs
 returns-2 : tie.Need-returns-2
 unfolding moved
 returns-2 c =
-    single-unlocked (c .before .before .before .before .before .before .before .args .c) _
+    single-unlocked (c .before .before .before .before .before .before .before .args .c)
     (c .before .before .before .before .scale-for .ensures) (c .before .before .before .if1 .left) (c .before .phase-of .ensures)
     (c .centre .ensures)
 

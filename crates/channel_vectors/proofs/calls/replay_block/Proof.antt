@@ -47,7 +47,10 @@ compare-block-requires : tie.Need-compare-block-requires
 compare-block-requires c κs = search needs
 
 same-length : tie.Need-same-length
-same-length c = search needs
+same-length c =
+    let b = c .before .before .before .before .before .before in
+    let n = b .before .before .before .before .before .before .before .before .before .before .before .before .before in
+    search (needs, b .compare-block .kept .1 .1 .0, n .next-samples .kept .1 .0)
 
 same-length-2 : tie.Need-same-length-2
 same-length-2 c = search needs

@@ -2,12 +2,13 @@
 use mathlib.Core.Path.{_≡_, refl, sym, ap, _∙_, subst}
 use mathlib.Core.Bool.{Bool, true, false, not, cond}
 use lib.Dec.{T}
-use lib.Ieee.{Float, binary64, eq, div, isNan, ofBits}
+use lib.Ieee.{Float, binary64, eq, div, isNan, ofBits, inf}
 use lib.Ieee.Positive.{positive}
 use borrow.Author.Needs.{needs}
 use Rattle.ieee754.specs.Binary64.{zero, one, pi, halfPi, quarterPi, threeQuartersPi}
 use Rattle.ieee754.specs.Sign.{absolute, plusZero, signBit, signed}
-use Rattle.elementary_arctangent.specs.Steps.{regularAngle, infinity, upperAngle}
+use Rattle.elementary_arctangent.specs.Steps.{regularAngle}
+use Rattle.elementary_arctangent.specs.Code.Tests.{upperAngle}
 use Rattle.ieee754.proofs.SizeBits.{absolute-no-nan}
 use Rattle.elementary_arctangent.proofs.SignBits.{absolute-sign}
 use Rattle.elementary_arctangent.proofs.Cases.{positive-of}
@@ -25,14 +26,14 @@ zero-is : zero-text ≡ plusZero
 unfolding ofBits
 zero-is = refl
 
-infinity-is : infinity-text ≡ infinity
+infinity-is : infinity-text ≡ (inf false)
 unfolding div ofBits
 infinity-is = refl
 
 is-zero : (a : Float) {t : Bool} → eq a zero-text ≡ t → eq a plusZero ≡ t
 is-zero a h = sym (ap (eq a) zero-is) ∙ h
 
-is-infinite : (a : Float) {t : Bool} → eq a infinity-text ≡ t → eq a infinity ≡ t
+is-infinite : (a : Float) {t : Bool} → eq a infinity-text ≡ t → eq a (inf false) ≡ t
 is-infinite a h = sym (ap (eq a) infinity-is) ∙ h
 
 module _ (a b : Float) (left : Bool) where
@@ -97,7 +98,7 @@ module _ (s : tie.After-negative2) where
       (subst (λ (z : Float). regularAngle (signBit x) z ax ≡ upperAngle (signBit x) z ax) (s .before .before .before .magnitude .ensures) (subst (λ (b : Bool). regularAngle b ay ax ≡ upperAngle b ay ax) (s .negative2 .ensures) f))
 
   size-of : (z : Float) {w : Float} → T (not (isNan z)) → w ≡ absolute z → eq w zero-text ≡ false → eq w infinity-text ≡ false → T (positive (absolute z))
-  size-of z {w} n e p q = positive-of (absolute z) (absolute-no-nan z n) (absolute-sign z) (ap (λ (k : Float). eq k plusZero) (sym e) ∙ is-zero w p) (ap (λ (k : Float). eq k infinity) (sym e) ∙ is-infinite w q)
+  size-of z {w} n e p q = positive-of (absolute z) (absolute-no-nan z n) (absolute-sign z) (ap (λ (k : Float). eq k plusZero) (sym e) ∙ is-zero w p) (ap (λ (k : Float). eq k (inf false)) (sym e) ∙ is-infinite w q)
 
 magnitude-requires : tie.Need-magnitude-requires
 magnitude-requires c κs = c .pre .0

@@ -8,8 +8,10 @@ use lib.Ieee.{Float, binary64, div, neg, ofBits}
 use lib.Ieee.Positive.{positive}
 use borrow.Author.Needs.{needs}
 use Rattle.ieee754.specs.Sign.{absolute, signBit, signed}
+use Rattle.ieee754.specs.Binary64.{twoToMinus62}
 use Rattle.elementary_fixed_point.specs.Conversion.{scaled}
-use Rattle.elementary_arctangent.specs.Steps.{straightAngle, angleUnit, firstQuadrant, isSmall, regularAngle}
+use Rattle.elementary_arctangent.specs.Steps.{straightAngle, firstQuadrant, regularAngle}
+use Rattle.elementary_arctangent.specs.Code.Tests.{isSmall}
 use Rattle.elementary_arctangent.proofs.SignBits.{positive-no-nan}
 use Rattle.elementary_arctangent.proofs.OppositeSign.{scaled-signed, signed-div}
 use Rattle.elementary_arctangent.proofs.plane.regular_angle.Statement.{statement}
@@ -29,9 +31,9 @@ module _ (y x : Float) where
   angle-units = cond left (straightAngle - firstQuadrant a b) (firstQuadrant a b)
 
   module _ {c : Bool} (ec : c ≡ (isSmall a b && not left)) where
-    regular-is : {t : Bool} → c ≡ t → cond t (div binary64 a b) (scaled angle-units angleUnit) ≡ regularAngle left a b
+    regular-is : {t : Bool} → c ≡ t → cond t (div binary64 a b) (scaled angle-units twoToMinus62) ≡ regularAngle left a b
     unfolding regularAngle
-    regular-is h = ap (λ (t : Bool). cond t (div binary64 a b) (scaled angle-units angleUnit)) (sym h ∙ ec)
+    regular-is h = ap (λ (t : Bool). cond t (div binary64 a b) (scaled angle-units twoToMinus62)) (sym h ∙ ec)
 
     quotient-is : T (positive a) → T (positive b) → c ≡ true → div binary64 y x ≡ signed (signBit y) (regularAngle left a b)
     quotient-is pa pb t = signed-div y x pa pb (right (isSmall a b) left (sym ec ∙ t)) ∙ ap (signed (signBit y)) (regular-is t)
@@ -41,11 +43,11 @@ module _ (y x : Float) where
         right true false h = refl
         right false l h = absurd (true≢false (sym h))
 
-    angle-is : {d k : ℕ} {m n u r : Float} {l : Bool} → c ≡ false → m ≡ a → n ≡ b → d ≡ firstQuadrant m n → l ≡ left → k ≡ cond l (straightAngle - d) d → u ≡ signed (signBit y) angleUnit → r ≡ scaled k u → r ≡ signed (signBit y) (regularAngle left a b)
+    angle-is : {d k : ℕ} {m n u r : Float} {l : Bool} → c ≡ false → m ≡ a → n ≡ b → d ≡ firstQuadrant m n → l ≡ left → k ≡ cond l (straightAngle - d) d → u ≡ signed (signBit y) twoToMinus62 → r ≡ scaled k u → r ≡ signed (signBit y) (regularAngle left a b)
     unfolding ofBits neg
     angle-is {d} {k} {m} {n} {u} {r} {l} t em en ed el ek eu er =
         er ∙ ap (scaled k) eu
-        ∙ ap (λ (z : ℕ). scaled z (signed (signBit y) angleUnit)) (ek ∙ ap (λ (z : Bool). cond z (straightAngle - d) d) el ∙ ap (λ (z : ℕ). cond left (straightAngle - z) z) (ed ∙ ap (λ (z : Float). firstQuadrant z n) em ∙ ap (firstQuadrant a) en))
+        ∙ ap (λ (z : ℕ). scaled z (signed (signBit y) twoToMinus62)) (ek ∙ ap (λ (z : Bool). cond z (straightAngle - d) d) el ∙ ap (λ (z : ℕ). cond left (straightAngle - z) z) (ed ∙ ap (λ (z : Float). firstQuadrant z n) em ∙ ap (firstQuadrant a) en))
         ∙ scaled-signed (signBit y) angle-units 0 (negsuc 61) ∙ ap (signed (signBit y)) (regular-is t)
 
 is-quotient-requires : tie.Need-is-quotient-requires

@@ -6,7 +6,7 @@ use lib.Dec.{T, lit<}
 use lib.Ieee.{binary64, neg, nanBits, ofBits}
 use borrow.Author.Needs.{needs}
 use Rattle.ieee754.specs.Sign.{signBit, signed}
-use Rattle.elementary_arctangent.specs.Steps.{angleUnit}
+use Rattle.ieee754.specs.Binary64.{twoToMinus62}
 use Rattle.elementary_arctangent.proofs.plane.signed_unit.Statement.{statement}
 use Rattle.elementary_arctangent.proofs.plane.signed_unit.Tie as tie
 
@@ -19,7 +19,7 @@ unfolding nanBits
 is-number true = tt
 is-number false = tt
 
-unit-is : (s : Bool) → ofBits binary64 (0x3c10_0000_0000_0000 + cond s (2 ^ 63) 0) ≡ signed s angleUnit
+unit-is : (s : Bool) → ofBits binary64 (0x3c10_0000_0000_0000 + cond s (2 ^ 63) 0) ≡ signed s twoToMinus62
 unfolding ofBits neg
 unit-is true = refl
 unit-is false = refl

@@ -9,7 +9,8 @@ use borrow.Author.Needs.{needs}
 use Rattle.elementary_fixed_point.specs.Ratio.{ratio}
 use Rattle.elementary_fixed_point.specs.Code.Bounds.{Proper}
 use Rattle.elementary_fixed_point.proofs.RatioBound.{ratio-upto}
-use Rattle.elementary_arctangent.specs.Steps.{uptoHalf, second}
+use Rattle.elementary_arctangent.specs.Steps.{second}
+use Rattle.elementary_arctangent.specs.Code.Tests.{uptoHalf}
 use Rattle.elementary_arctangent.proofs.AngleBound.{ratio-half, second-half}
 use Rattle.elementary_arctangent.proofs.quotient.argument.Statement.{statement}
 use Rattle.elementary_arctangent.proofs.quotient.argument.Tie as tie

@@ -8,7 +8,8 @@ use lib.Ieee.{Float, binary64, fits}
 use borrow.Author.Needs.{needs}
 use Rattle.elementary_fixed_point.specs.Ratio.{ratio}
 use Rattle.elementary_fixed_point.specs.Code.Bounds.{Proper}
-use Rattle.elementary_arctangent.specs.Steps.{series, second, uptoHalf, angleOfHalf, rightAngle, firstOctant}
+use Rattle.elementary_arctangent.specs.Steps.{series, second, angleOfHalf, rightAngle, firstOctant}
+use Rattle.elementary_arctangent.specs.Code.Tests.{uptoHalf}
 use Rattle.elementary_arctangent.proofs.Tables.{right-angle-is}
 use Rattle.elementary_arctangent.proofs.AngleBound.{octant-le}
 use Rattle.elementary_arctangent.proofs.quotient.first_octant.Statement.{statement}

@@ -1,8 +1,8 @@
 -- `series::subtracted_terms` meets its contract: the table's entries in its text, and Horner's rule written out.
 use Prim.Native.Nat.{_/_, _^_}
 use borrow.Author.Needs.{needs}
+use Rattle.elementary_arctangent.specs.Steps.{coefficients}
 use Rattle.elementary_fixed_point.specs.Product.{tabulate}
-use Rattle.elementary_arctangent.specs.Steps.{subtracted}
 use Rattle.elementary_arctangent.proofs.Unrolled.{nine}
 use Rattle.elementary_arctangent.proofs.series.subtracted_terms.Statement.{statement}
 use Rattle.elementary_arctangent.proofs.series.subtracted_terms.Tie as tie
@@ -32,7 +32,7 @@ horner-step-requires-8 : tie.Need-horner-step-requires-8
 horner-step-requires-8 c κs = search needs
 
 returns : tie.Need-returns
-unfolding subtracted tabulate
+unfolding coefficients tabulate
 returns c =
     let c7 = c .before in
     let c6 = c7 .before in

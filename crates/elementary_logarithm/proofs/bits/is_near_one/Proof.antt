@@ -4,7 +4,8 @@ use mathlib.Core.Bool.{false}
 use Prim.Native.Nat.{ℕ, _+_, _-_, _^_, _≤_, _<_}
 use lib.Dec.{ltb}
 use borrow.Author.Tests.{lt-ltb, le-ltb}
-use Rattle.elementary_logarithm.specs.Steps.{oneBits, isNearOne}
+use Rattle.elementary_logarithm.specs.Steps.{oneBits}
+use Rattle.elementary_logarithm.specs.Code.Parts.{isNearOne}
 use Rattle.elementary_logarithm.proofs.bits.is_near_one.Statement.{statement}
 use Rattle.elementary_logarithm.proofs.bits.is_near_one.Tie as tie
 

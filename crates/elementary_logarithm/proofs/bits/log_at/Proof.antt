@@ -6,8 +6,10 @@ use native.Mathlib.Omega.{arith}
 use borrow.Author.Needs.{needs}
 use borrow.Author.Tests.{lt-ltb, le-ltb}
 use lib.Ieee.{Float, neg}
+use Rattle.ieee754.specs.Binary64.{twoToMinus54}
 use Rattle.elementary_fixed_point.specs.Conversion.{scaled}
-use Rattle.elementary_logarithm.specs.Steps.{natural, logTwo, tableTwo, common, atLeastOne, unit, sumFrom, sumUnder, logAt}
+use Rattle.elementary_logarithm.specs.Steps.{natural, logTwo, tableTwo, common, atLeastOne, logAt}
+use Rattle.elementary_logarithm.specs.Code.Parts.{sumFrom, sumUnder}
 use Rattle.elementary_logarithm.proofs.Constants.{log-two-is, table-two-is}
 use Rattle.elementary_logarithm.proofs.bits.log_at.Statement.{statement}
 use Rattle.elementary_logarithm.proofs.bits.log_at.Tie as tie
@@ -19,13 +21,13 @@ under-is s p {h} e = ap (λ (z : ℕ). (1073 - p) * z + (12486629536148167 - h))
 from-is : (s p : ℕ) {h : ℕ} → h ≡ natural s → (p - 1074) * 12486629536330718 + h ≡ sumFrom s p
 from-is s p {h} e = ap (λ (z : ℕ). (p - 1074) * z + h) (sym log-two-is) ∙ ap (λ (z : ℕ). (p - 1074) * logTwo + z) e
 
-below-is : (s p : ℕ) {d g k : ℕ} {v : Float} → p < 1074 → d ≡ sumUnder s p → g ≡ common d → k ≡ atLeastOne g → v ≡ scaled k unit → neg v ≡ logAt s p
+below-is : (s p : ℕ) {d g k : ℕ} {v : Float} → p < 1074 → d ≡ sumUnder s p → g ≡ common d → k ≡ atLeastOne g → v ≡ scaled k twoToMinus54 → neg v ≡ logAt s p
 unfolding logAt
-below-is s p l ed eg ek ev = rw (lt-ltb p 1074 l) (ap neg (ev ∙ ap (λ (z : ℕ). scaled z unit) (ek ∙ ap atLeastOne (eg ∙ ap common ed))))
+below-is s p l ed eg ek ev = rw (lt-ltb p 1074 l) (ap neg (ev ∙ ap (λ (z : ℕ). scaled z twoToMinus54) (ek ∙ ap atLeastOne (eg ∙ ap common ed))))
 
-above-is : (s p : ℕ) {d g k : ℕ} {v : Float} → 1074 ≤ p → d ≡ sumFrom s p → g ≡ common d → k ≡ atLeastOne g → v ≡ scaled k unit → v ≡ logAt s p
+above-is : (s p : ℕ) {d g k : ℕ} {v : Float} → 1074 ≤ p → d ≡ sumFrom s p → g ≡ common d → k ≡ atLeastOne g → v ≡ scaled k twoToMinus54 → v ≡ logAt s p
 unfolding logAt
-above-is s p l ed eg ek ev = rw (le-ltb p 1074 l) (ev ∙ ap (λ (z : ℕ). scaled z unit) (ek ∙ ap atLeastOne (eg ∙ ap common ed)))
+above-is s p l ed eg ek ev = rw (le-ltb p 1074 l) (ev ∙ ap (λ (z : ℕ). scaled z twoToMinus54) (ek ∙ ap atLeastOne (eg ∙ ap common ed)))
 
 small : (c : tie.After-natural) → c .natural .result ≤ 12486629536148167
 small c = le-trans (c .natural .ensures .1) (le-of-eq table-two-is)

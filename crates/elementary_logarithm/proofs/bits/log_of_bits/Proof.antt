@@ -5,7 +5,8 @@ use Prim.Native.Nat.{ℕ}
 use lib.Dec.{T}
 use borrow.Author.Needs.{needs}
 use lib.Ieee.{Float}
-use Rattle.elementary_logarithm.specs.Steps.{nearOne, farFromOne, isNearOne, logOfBits}
+use Rattle.elementary_logarithm.specs.Steps.{nearOne, farFromOne, logOfBits}
+use Rattle.elementary_logarithm.specs.Code.Parts.{isNearOne}
 use Rattle.elementary_logarithm.proofs.Pattern.{is-near}
 use Rattle.elementary_logarithm.proofs.bits.log_of_bits.Statement.{statement}
 use Rattle.elementary_logarithm.proofs.bits.log_of_bits.Tie as tie

@@ -4,18 +4,19 @@ use Prim.Native.Nat.{ℕ, _-_, _≤_, _<_}
 use borrow.Author.Needs.{needs}
 use borrow.Author.Tests.{lt-ltb, le-ltb}
 use lib.Ieee.{Float, neg}
+use Rattle.ieee754.specs.Binary64.{twoToMinus81}
 use Rattle.elementary_fixed_point.specs.Conversion.{scaled}
-use Rattle.elementary_logarithm.specs.Steps.{common, pastOne, beforeOne, fineUnit, oneBits, nearOne}
+use Rattle.elementary_logarithm.specs.Steps.{common, pastOne, beforeOne, oneBits, nearOne}
 use Rattle.elementary_logarithm.proofs.bits.near_one.Statement.{statement}
 use Rattle.elementary_logarithm.proofs.bits.near_one.Tie as tie
 
-before-is : (b : ℕ) {d g : ℕ} {v : Float} → b < oneBits → d ≡ beforeOne (oneBits - b) → g ≡ common d → v ≡ scaled g fineUnit → neg v ≡ nearOne b
+before-is : (b : ℕ) {d g : ℕ} {v : Float} → b < oneBits → d ≡ beforeOne (oneBits - b) → g ≡ common d → v ≡ scaled g twoToMinus81 → neg v ≡ nearOne b
 unfolding nearOne
-before-is b l ed eg ev = rw (lt-ltb b oneBits l) (ap neg (ev ∙ ap (λ (z : ℕ). scaled z fineUnit) (eg ∙ ap common ed)))
+before-is b l ed eg ev = rw (lt-ltb b oneBits l) (ap neg (ev ∙ ap (λ (z : ℕ). scaled z twoToMinus81) (eg ∙ ap common ed)))
 
-past-is : (b : ℕ) {d g : ℕ} {v : Float} → oneBits ≤ b → d ≡ pastOne (b - oneBits) → g ≡ common d → v ≡ scaled g fineUnit → v ≡ nearOne b
+past-is : (b : ℕ) {d g : ℕ} {v : Float} → oneBits ≤ b → d ≡ pastOne (b - oneBits) → g ≡ common d → v ≡ scaled g twoToMinus81 → v ≡ nearOne b
 unfolding nearOne
-past-is b l ed eg ev = rw (le-ltb b oneBits l) (ev ∙ ap (λ (z : ℕ). scaled z fineUnit) (eg ∙ ap common ed))
+past-is b l ed eg ev = rw (le-ltb b oneBits l) (ev ∙ ap (λ (z : ℕ). scaled z twoToMinus81) (eg ∙ ap common ed))
 
 sub-before-one : tie.Need-sub-before-one
 sub-before-one c = search needs

@@ -1,7 +1,7 @@
 -- `reduction::remainder` meets its contract: within a turn the remainder is the angle itself.
 use mathlib.Core.Path.{refl, sym, subst}
 use lib.Dec.{T}
-use Rattle.elementary_sincos.specs.Reduction.{remainder}
+use Rattle.elementary_sincos.specs.Code.Parts.{remainder}
 use Rattle.elementary_sincos.proofs.ExactRemainder.{within-turn}
 use Rattle.elementary_sincos.proofs.reduction.remainder.Statement.{statement}
 use Rattle.elementary_sincos.proofs.reduction.remainder.Tie as tie

@@ -5,10 +5,11 @@ use mathlib.Core.Bool.{Bool}
 use borrow.Author.Needs.{needs}
 use lib.Dec.{ltb}
 use lib.Ieee.{Float}
-use Rattle.ieee754_rounding.specs.Errors.{distance}
+use Rattle.ieee754_rounding.specs.Distance.{distance}
 use Rattle.elementary_fixed_point.specs.Conversion.{scaled}
 use Rattle.ieee754.specs.Sign.{signed}
-use Rattle.elementary_sincos.specs.Steps.{unit, difference}
+use Rattle.elementary_sincos.specs.Steps.{difference}
+use Rattle.ieee754.specs.Binary64.{twoToMinus53}
 use Rattle.elementary_sincos.proofs.SignedUnit.{signed-difference}
 use Rattle.elementary_sincos.proofs.series.signed_difference.Statement.{statement}
 use Rattle.elementary_sincos.proofs.series.signed_difference.Tie as tie
@@ -22,7 +23,7 @@ signed-unit-requires c κs = search needs
 to-f64-requires : tie.Need-to-f64-requires
 to-f64-requires c κs = search needs
 
-is : (p n d : ℕ) (s : Bool) (u v : Float) → d ≡ distance p n → u ≡ signed s (signed (ltb p n) unit) → v ≡ scaled d u → v ≡ signed s (difference p n)
+is : (p n d : ℕ) (s : Bool) (u v : Float) → d ≡ distance p n → u ≡ signed s (signed (ltb p n) twoToMinus53) → v ≡ scaled d u → v ≡ signed s (difference p n)
 is p n d s u v a b e = e ∙ ap (λ (z : ℕ). scaled z u) a ∙ ap (scaled (distance p n)) b ∙ signed-difference p n s
 
 returns : tie.Need-returns

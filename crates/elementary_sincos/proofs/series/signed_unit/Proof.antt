@@ -5,17 +5,17 @@ use lib.Dec.{ltb}
 use lib.Ieee.{neg}
 use Rattle.ieee754.specs.Sign.{signed}
 use Rattle.ieee754_rounding.proofs.Opposites.{neg-neg}
-use Rattle.elementary_sincos.specs.Steps.{unit}
+use Rattle.ieee754.specs.Binary64.{twoToMinus53}
 use Rattle.elementary_sincos.proofs.series.signed_unit.Statement.{statement}
 use Rattle.elementary_sincos.proofs.series.signed_unit.Tie as tie
 
-same : (b s : Bool) → Bool·beq b s ≡ true → unit ≡ signed s (signed b unit)
-same true true h = sym (neg-neg unit)
+same : (b s : Bool) → Bool·beq b s ≡ true → twoToMinus53 ≡ signed s (signed b twoToMinus53)
+same true true h = sym (neg-neg twoToMinus53)
 same false false h = refl
 same true false h = absurd (true≢false (sym h))
 same false true h = absurd (true≢false (sym h))
 
-apart : (b s : Bool) → Bool·beq b s ≡ false → neg unit ≡ signed s (signed b unit)
+apart : (b s : Bool) → Bool·beq b s ≡ false → neg twoToMinus53 ≡ signed s (signed b twoToMinus53)
 apart true false h = refl
 apart false true h = refl
 apart true true h = absurd (true≢false h)

@@ -6,7 +6,8 @@ use borrow.Author.Needs.{needs}
 use lib.Ieee.{Float}
 use Rattle.elementary_fixed_point.specs.Product.{hi, horner}
 use Rattle.ieee754.specs.Sign.{signed}
-use Rattle.elementary_sincos.specs.Steps.{difference, sinePlus, sineMinus, sineFrom}
+use Rattle.elementary_sincos.specs.Steps.{difference}
+use Rattle.elementary_sincos.specs.Code.Parts.{sineFrom, sinePlus, sineMinus}
 use Rattle.elementary_sincos.proofs.series.sine.Statement.{statement}
 use Rattle.elementary_sincos.proofs.series.sine.Tie as tie
 

@@ -1,6 +1,5 @@
 -- `estimate_esprit::phase::frequency_of` meets its contract. Assumes nothing.
 use borrow.Author.Tests.{not-true, not-false}
-use Rattle.estimate_esprit.specs.Esprit.{frequencyAt}
 use Rattle.estimate_esprit.proofs.EstimateCases.{no-energy, frequency-is}
 use borrow.Author.Needs.{needs}
 use Rattle.estimate_esprit.proofs.phase.frequency_of.Statement.{statement}
@@ -22,7 +21,6 @@ clamp-requires : tie.Need-clamp-requires
 clamp-requires c κs = search needs
 
 returns-2 : tie.Need-returns-2
-unfolding frequencyAt
 returns-2 c =
     let t = c .before .before .before .before .before in
     frequency-is _ _ (t .before .denominator .ensures) (not-false _ (t .if1 .left)) (c .before .before .before .before .numerator .ensures) (c .before .atan2 .ensures .0)

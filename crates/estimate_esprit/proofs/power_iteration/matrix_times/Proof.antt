@@ -5,7 +5,8 @@ use native.Mathlib.Omega.{arith}
 use lib.ListN.{length, take, length-set}
 use Rattle.sums.specs.Interleaved.{table}
 use Rattle.sums.proofs.Tables.{table-start, table-next, table-end}
-use Rattle.estimate_esprit.specs.Esprit.{rowTimes, matrixTimes}
+use Rattle.estimate_esprit.specs.Esprit.{matrixTimes}
+use Rattle.estimate_esprit.specs.Code.Rows.{rowTimes}
 use borrow.Author.Needs.{needs}
 use Rattle.estimate_esprit.proofs.power_iteration.matrix_times.Statement.{statement}
 use Rattle.estimate_esprit.proofs.power_iteration.matrix_times.Tie as tie

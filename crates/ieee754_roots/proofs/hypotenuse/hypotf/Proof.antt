@@ -10,13 +10,13 @@ use lib.Ieee.Compare.{differs-from-itself}
 use borrow.Author.Needs.{needs}
 use Rattle.ieee754.specs.SquareRoot.{sqrt}
 use Rattle.ieee754.specs.Conversion.{convert}
-use Rattle.ieee754.specs.Hypotenuse.{hypotenuseAt}
+use Rattle.ieee754.specs.Hypotenuse.{hypotenuse}
 use Rattle.ieee754.proofs.Fields.{yes, equals-itself, zero-by-zero}
 use Rattle.ieee754.proofs.TruncationCases.{or-cases, nor}
 use Rattle.ieee754_roots.proofs.hypotenuse.hypotf.Statement.{statement}
 use Rattle.ieee754_roots.proofs.hypotenuse.hypotf.Tie as tie
 
-first-nan : (y : Float) → nan ≡ hypotenuseAt binary32 nan y
+first-nan : (y : Float) → nan ≡ convert binary32 (hypotenuse nan y)
 unfolding add mul sqrt convert
 first-nan y = refl
 
@@ -30,10 +30,10 @@ plus-nan nan = refl
 plus-nan (inf s) = refl
 plus-nan (fin s m e) = refl
 
-nan-leg : (x y : Float) → ne x x || ne y y ≡ true → nan ≡ hypotenuseAt binary32 x y
+nan-leg : (x y : Float) → ne x x || ne y y ≡ true → nan ≡ convert binary32 (hypotenuse x y)
 nan-leg x y h = elim (or-cases (ne x x) (ne y y) (yes h)) [
-  | inl t ↦ subst (λ (z : Float). nan ≡ hypotenuseAt binary32 z y) (sym (differs-from-itself x t)) (first-nan y)
-  | inr t ↦ subst (λ (z : Float). nan ≡ hypotenuseAt binary32 x z) (sym (differs-from-itself y t)) (plus-nan (mul binary64 x x) ∙ ap (λ (z : Float). convert binary32 (sqrt binary64 (add binary64 (mul binary64 x x) z))) (sym nan-squared))
+  | inl t ↦ subst (λ (z : Float). nan ≡ convert binary32 (hypotenuse z y)) (sym (differs-from-itself x t)) (first-nan y)
+  | inr t ↦ subst (λ (z : Float). nan ≡ convert binary32 (hypotenuse x z)) (sym (differs-from-itself y t)) (plus-nan (mul binary64 x x) ∙ ap (λ (z : Float). convert binary32 (sqrt binary64 (add binary64 (mul binary64 x x) z))) (sym nan-squared))
 ]
 
 legs : (c : tie.Else1) → T (not (isNan (c .before .args .x))) × T (not (isNan (c .before .args .y)))

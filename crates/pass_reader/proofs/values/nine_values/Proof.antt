@@ -80,8 +80,8 @@ array-write-v c = search needs
 add-k : tie.Need-add-k Inv-loop μ-loop
 add-k c = search needs
 
-settled-requires : tie.Need-settled-requires Inv-loop μ-loop
-settled-requires c κs = search needs
+values-from-requires : tie.Need-values-from-requires Inv-loop μ-loop
+values-from-requires c κs = search needs
 
 returns-2 : tie.Need-returns-2 Inv-loop μ-loop
 unfolding bind
@@ -91,7 +91,7 @@ returns-2 c = let l = c .before .before .before .before .before .before .before 
     let w = c .before .before .before .field .given in
     let e : some (w .0 .0) ≡ decimalOf (take (at + c .before .before .before .before .before .before .before .place-of .result - at) (drop at s)) = ap valueIn
     (sym (w .1)) ∙ c .before .before .before .before .before .decimal .ensures in
-    c .settled .ensures ∙ ap (λ (o : Option (List ℕ)). bind o nineValues)
+    c .values-from .ensures ∙ ap (λ (o : Option (List ℕ)). bind o nineValues)
     (sym (last-decimal s (l .loop .v) at (at + c .before .before .before .before .before .before .before .place-of .result) (l .loop .k) (l .loop .inv .1) (found-from 32 s at _ (c .before .before .before .before .before .before .before .place-of .ensures)) (l .loop .inv .3) (w .0 .0) (omega arith) e (omega arith)))
 
 add-at : tie.Need-add-at Inv-loop μ-loop
@@ -149,7 +149,7 @@ nine-values-spec =
     mul-v
     array-write-v
     add-k
-    settled-requires
+    values-from-requires
     returns-2
     add-at
     loop-less

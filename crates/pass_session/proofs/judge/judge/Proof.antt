@@ -1,5 +1,5 @@
 -- `judge`, by where in the text the line stands.
-use Rattle.pass_setup.proofs.LineCases.{names-judged, values-judged, block-names-judged, blocks-judged, ended-judged}
+use Rattle.pass_setup.proofs.LineCases.{names-judged, values-judged, block-names-judged, blocks-judged, stopped-judged}
 use borrow.Author.Needs.{needs}
 use Rattle.pass_session.proofs.judge.judge.Statement.{statement}
 use Rattle.pass_session.proofs.judge.judge.Tie as tie
@@ -74,7 +74,7 @@ returns-4 c =
 
 returns-5 : tie.Need-returns-5
 returns-5 c =
-    ended-judged (c .before .before .before .before .before .args .p) (c .before .before .before .before .before .args .windows .now) (c .before .before .before .before .before .args .line .now) (c .before .before .before .before .before .args .at) (c .before .before .before .before .before .args .out .now) (c .enum-told5 .given .1)
+    stopped-judged (c .before .before .before .before .before .args .p) (c .before .before .before .before .before .args .windows .now) (c .before .before .before .before .before .args .line .now) (c .before .before .before .before .before .args .at) (c .before .before .before .before .before .args .out .now) (c .enum-told5 .given .1)
 
 pub judge-spec : {M : Type 1} → statement M
 judge-spec =

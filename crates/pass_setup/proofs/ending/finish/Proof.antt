@@ -1,5 +1,5 @@
 -- `finish`, by where in the text the input ends.
-use Rattle.pass_setup.proofs.LineCases.{printed-as, still-printed, ends-names, ends-values, ends-block-names, ends-blocks, ends-cut, ends-ended}
+use Rattle.pass_setup.proofs.LineCases.{printed-as, still-printed, ends-names, ends-values, ends-block-names, ends-blocks, ends-cut, ends-stopped}
 use borrow.Author.Needs.{needs}
 use Rattle.pass_setup.proofs.ending.finish.Statement.{statement}
 use Rattle.pass_setup.proofs.ending.finish.Tie as tie
@@ -71,7 +71,7 @@ returns-5 c =
 returns-6 : tie.Need-returns-6
 returns-6 c =
     printed-as (c .before .before .before .before .args .at) (c .before .before .before .before .args .out .now) (still-printed (c .before .before .before .before .args .p) (c .before .before .before .before .args .at) (c .before .before .before .before .args .out .now))
-    (ends-ended (c .before .before .before .before .args .p) (c .before .before .before .before .args .left .now) (c .enum-told5 .given .1))
+    (ends-stopped (c .before .before .before .before .args .p) (c .before .before .before .before .args .left .now) (c .enum-told5 .given .1))
 
 pub finish-spec : {M : Type 1} → statement M
 finish-spec =

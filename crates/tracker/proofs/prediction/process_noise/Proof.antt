@@ -12,7 +12,7 @@ returns : tie.Need-returns
 unfolding processNoise
 returns c =
     let g = c .before .before .before .before .args in
-    let a = g .t in
+    let a = g .t .tuning in
     let s = c .before .before .before .noise-scale .ensures in
     λ j.
     record {

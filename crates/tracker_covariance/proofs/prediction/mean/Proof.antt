@@ -4,7 +4,7 @@ use mathlib.Core.Path.{refl}
 use native.Mathlib.Omega.{arith}
 use borrow.Author.Needs.{needs}
 use Rattle.tracker_covariance.proofs.Filling.{Rows, no-rows, store-entry, next-row, all-rows}
-use Rattle.tracker_covariance.specs.Prediction.{meanAt}
+use Rattle.tracker_covariance.specs.Code.Entries.{meanAt}
 use Rattle.tracker_covariance.proofs.prediction.mean.Statement.{statement}
 use Rattle.tracker_covariance.proofs.prediction.mean.Tie as tie
 

@@ -4,7 +4,7 @@ use mathlib.Core.Path.{refl, sym}
 use native.Mathlib.Omega.{arith}
 use borrow.Author.Needs.{needs}
 use Rattle.ieee754.specs.Binary64.{plus}
-use Rattle.tracker_covariance.specs.Prediction.{sumAt}
+use Rattle.tracker_covariance.specs.Code.Entries.{sumAt}
 use Rattle.tracker_covariance.proofs.Filling.{Filled, place, none, store, at-place, all-places}
 use Rattle.tracker_covariance.proofs.prediction.sum.Statement.{statement}
 use Rattle.tracker_covariance.proofs.prediction.sum.Tie as tie

@@ -17,7 +17,7 @@ process-noise-requires c κs = search needs
 predict-requires : tie.Need-predict-requires
 unfolding processNoise
 predict-requires c κs =
-    let e : c .process-noise .result .ratio ≡ c .before .before .before .args .h .ekf .«frequency_ratio» = ap (λ (n : ProcessNoise). n .ratio) (c .process-noise .ensures) in
+    let e : c .process-noise .result .ratio ≡ c .before .before .before .args .h .ekf .tuning .«frequency_ratio» = ap (λ (n : ProcessNoise). n .ratio) (c .process-noise .ensures) in
     subst (λ (r : Float). Steady (c .before .before .before .args .dt) r) (sym e) (c .before .before .before .pre)
 
 predict-state-requires : tie.Need-predict-state-requires

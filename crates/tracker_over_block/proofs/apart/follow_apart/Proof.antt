@@ -12,7 +12,8 @@ use Rattle.sequences.specs.Folds.{fold}
 use Rattle.sequences.specs.Pairs.{pairs}
 use Rattle.sequences.proofs.PairLaws.{fold-pairs-next}
 use Rattle.tracker_one_frequency.specs.Code.Whole.{whole}
-use Rattle.tracker_model.specs.Following.{follow, followed}
+use Rattle.tracker_model.specs.Following.{follow}
+use Rattle.tracker_model.specs.Code.OneList.{followed}
 use Rattle.tracker_over_block.proofs.apart.follow_apart.Statement.{statement}
 use Rattle.tracker_over_block.proofs.apart.follow_apart.Tie as tie
 

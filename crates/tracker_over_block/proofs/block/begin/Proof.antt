@@ -5,7 +5,7 @@ use lib.ListN.{drop}
 use lib.Ieee.{Float}
 use borrow.Author.Needs.{needs}
 use Rattle.tracker.specs.declared.state.Tracked.{Tracked}
-use Rattle.tracker_model.specs.Following.{followed}
+use Rattle.tracker_model.specs.Code.OneList.{followed}
 use Rattle.tracker_over_block.proofs.FollowingLaws.{of-one}
 use Rattle.tracker_over_block.proofs.block.begin.Statement.{statement}
 use Rattle.tracker_over_block.proofs.block.begin.Tie as tie

@@ -28,7 +28,7 @@ returns c =
     let a = c .before .before .before .before .before .before .before .before .before .before .before .before .before .args in
     let s : Sample × Sample = ((a .re1, a .im1), (a .re2, a .im2)) in
     let k = c .before .before .before .before .before .before .if2 .taken in
-    let d = c .before .before .before .before .before .before .before .before .interval-of .ensures ∙ cond-yes (a .dt) (a .h .ekf .ts) k in
+    let d = c .before .before .before .before .before .before .before .before .interval-of .ensures ∙ cond-yes (a .dt) (a .h .ekf .tuning .ts) k in
     let p = c .before .before .before .before .before .before .before .predict .ensures ∙ ap (λ (x : Float). predictedOver x (a .h .ekf) (a .h .p)) d in
     by-lock (a .fade) (a .dt) (either (a .two) s) (a .h, a .w .now) k (ap (λ (t : Tracked). (t, a .w .now)) p) (c .before .before .update .ensures)
     ∙ either-follows (a .two) (a .dt) (a .fade) (a .h, a .w .now) s
@@ -38,7 +38,7 @@ returns-2 c =
     let a = c .before .before .before .before .before .before .before .args in
     let s : Sample × Sample = ((a .re1, a .im1), (a .re2, a .im2)) in
     let k = c .if2 .left in
-    let d = c .before .before .interval-of .ensures ∙ cond-no (a .dt) (a .h .ekf .ts) k in
+    let d = c .before .before .interval-of .ensures ∙ cond-no (a .dt) (a .h .ekf .tuning .ts) k in
     let p = c .before .predict .ensures ∙ ap (λ (x : Float). predictedOver x (a .h .ekf) (a .h .p)) d in
     by-fade (a .fade) (a .dt) (either (a .two) s) (a .h, a .w .now) k (second-of _ _ (c .before .before .before .before .before .if1 .taken) k) (ap (λ (t : Tracked). (t, a .w .now)) p)
     ∙ either-follows (a .two) (a .dt) (a .fade) (a .h, a .w .now) s

@@ -1,11 +1,11 @@
--- `pass_reader::values::settled` meets its contract. By the count of the numbers and by the three switches.
+-- `pass_reader::values::values_from` meets its contract. By the count of the numbers and by the three switches.
 use mathlib.Core.Path.{_≡_}
 use native.Mathlib.Omega.{arith}
 use lib.ListN.{length}
 use borrow.Author.Needs.{needs}
 use Rattle.pass_reader.proofs.ValuesLaws.{few-say, third-wrong, fourth-wrong, fifth-wrong, nine-held}
-use Rattle.pass_reader.proofs.values.settled.Statement.{statement}
-use Rattle.pass_reader.proofs.values.settled.Tie as tie
+use Rattle.pass_reader.proofs.values.values_from.Statement.{statement}
+use Rattle.pass_reader.proofs.values.values_from.Tie as tie
 
 returns : tie.Need-returns
 returns c = let l : length (c .before .args .t1) ≡ 9 = search needs in few-say (c .before .args .t1) (c .before .args .n) (c .if1 .taken) (omega arith)
@@ -68,8 +68,8 @@ returns-5 c =
     nine-held (c .before .before .before .before .args .t1) (c .before .before .before .before .args .n) (omega arith) l (c .before .before .if2 .left)
     (c .before .if3 .left) (c .if4 .left)
 
-pub settled-spec : {M : Type 1} → statement M
-settled-spec =
+pub values-from-spec : {M : Type 1} → statement M
+values-from-spec =
     tie.close
     (tie.spec
     returns

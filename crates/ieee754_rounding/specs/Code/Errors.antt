@@ -2,9 +2,10 @@
 -- numbers and for any format. A finite value is written as a difference p - q of two whole numbers of units (2 ^ -low, the format's smallest
 -- value), so that every bound is linear. Definitions only.
 use mathlib.Core.Path.{_≡_}
-use mathlib.Core.Bool.{Bool, true, false}
+use mathlib.Core.Bool.{true, false}
 use Prim.Native.Nat.{ℕ, _+_, _-_, _*_, _^_, _≤_}
 use lib.Ieee.{Float, nan, inf, fin, Format, prec, low, up, down}
+use Rattle.ieee754_rounding.specs.Distance.{distance}
 
 -- x is finite, and is p - q units
 abbrev pub Val : Format → Float → ℕ → ℕ → Type 0
@@ -25,10 +26,6 @@ pub record NearVal (f : Format) (z : Float) (c d p q : ℕ) : Type 0 where
   pub val : Val f z P Q
   pub under : 2 * (P * c) + 2 * q ≤ 2 * (Q * c) + 2 * p + d
   pub over : 2 * (Q * c) + 2 * p ≤ 2 * (P * c) + 2 * q + d
-
--- |p - q|
-abbrev pub distance : ℕ → ℕ → ℕ
-distance p q = p - q + (q - p)
 
 -- the relative error: z is finite, and |z * c - (p - q)| is at most 2 ^ -prec of |p - q|, and, for the sake of subnormal results, half a
 -- unit more; taken 2 ^ prec times

@@ -1,0 +1,2 @@
+-- What only laws and proofs cite.
+pub mod Errors
