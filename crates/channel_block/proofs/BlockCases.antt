@@ -39,7 +39,7 @@ accepted-size two b size e =
     (past (not (allInRange (b .first) && allInRange (b .second))) 11 _ (λ h. omega arith)
     (past (not (eqb (length (b .second)) (cond two n 0))) 10 _ (λ h. omega arith)
     (past (ltb 1 (b .flag) && ltb 0 n) 9 _ (λ h. omega arith)
-    (past (badLength (b .first) || badLength (b .second)) 8 _ (λ h. omega arith)
+    (past (badLength (length (b .first)) || badLength (length (b .second))) 8 _ (λ h. omega arith)
     (past (ltb 4 (b .flag)) 7 _ (λ h. omega arith) e))))))
 
 -- ---- the lists and the window memory stay

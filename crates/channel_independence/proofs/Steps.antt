@@ -55,7 +55,7 @@ refused-size : (two : Bool) (b : BlockArgs) (size : ℕ) → eqb size 8192 ≡ f
 unfolding blockRefusal firstCause
 refused-size two b size e =
     rw e
-    (go (ltb 4 (b .flag)) (badLength (b .first) || badLength (b .second)) (ltb 1 (b .flag) && ltb 0 (length (b .first)))
+    (go (ltb 4 (b .flag)) (badLength (length (b .first)) || badLength (length (b .second))) (ltb 1 (b .flag) && ltb 0 (length (b .first)))
     (not (eqb (length (b .second)) (cond two (length (b .first)) 0))) (not (allInRange (b .first) && allInRange (b .second))))
   where
     go : (x y z t u : Bool) → eqb (cond x 7 (cond y 8 (cond z 9 (cond t 10 (cond u 11 12))))) 0 ≡ false

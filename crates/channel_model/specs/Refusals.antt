@@ -19,15 +19,15 @@ pub record BlockArgs : Type 0 where
   pub second : List Float
 
 -- 8: "a list of odd length or over 4,096 pairs"
-unfoldable pub badLength : List Float → Bool
-badLength l = eqb (length l % 2) 1 || ltb 8192 (length l)
+unfoldable pub badLength : ℕ → Bool
+badLength n = eqb (n % 2) 1 || ltb 8192 n
 
 -- with the length of the window memory. 10: "second list unlike the first in length (two frequencies), or not empty (one)"
 unfoldable pub blockRefusal : Bool → BlockArgs → ℕ → ℕ
 blockRefusal two b size =
     firstCause
     ((7, ltb 4 (b .flag))
-    ∷ (8, badLength (b .first) || badLength (b .second))
+    ∷ (8, badLength (length (b .first)) || badLength (length (b .second)))
     ∷ (9, ltb 1 (b .flag) && ltb 0 (length (b .first)))
     ∷ (10, not (eqb (length (b .second)) (cond two (length (b .first)) 0)))
     ∷ (11, not (allInRange (b .first) && allInRange (b .second)))

@@ -1,22 +1,21 @@
 // The refusals of a block, 7 to 12: one function for each test, then the number of the first that holds.
 ghost use mathlib.Core.Path.{_≡_};
-ghost use Prim.Native.Nat.{_%_};
 ghost use mathlib.Core.Bool.{cond, not, _&&_, _||_};
 ghost use lib.Dec.{ltb, eqb};
 ghost use Rattle.channel_samples.specs.Limits.{allInRange};
-ghost use Rattle.channel_model.specs.Refusals.{blockRefusal};
+ghost use Rattle.channel_model.specs.Refusals.{badLength, blockRefusal};
 use channel_samples::limits::all_in_range;
 
 // 8, of one list.
 fn bad_length(n: usize) -> bool
-    ensures { λ r. ⌜ r ≡ (eqb (n % 2) 1 || ltb 8192 n) ⌝ }
+    ensures { λ r. ⌜ r ≡ badLength n ⌝ }
 {
     (n % 2 == 1) | (8192 < n)
 }
 
 // 8, of both.
 fn bad_lengths(n: usize, m: usize) -> bool
-    ensures { λ r. ⌜ r ≡ ((eqb (n % 2) 1 || ltb 8192 n) || (eqb (m % 2) 1 || ltb 8192 m)) ⌝ }
+    ensures { λ r. ⌜ r ≡ (badLength n || badLength m) ⌝ }
 {
     bad_length(n) | bad_length(m)
 }
