@@ -3,6 +3,8 @@
 //!     passgen --seed N [--damage KIND]               one text on standard output
 //!     passgen --seed N --count N --dir DIR           texts N.txt of seeds N, N + 1, ... into DIR
 //!
+//! Both take --blocks N, for texts of N blocks of 1 to 60 pairs each (or 1 to P, with --pairs P).
+//!
 //! Two of three texts of a folder are damaged. The kinds of damage are numbered 0 to KINDS - 1;
 //! `damage` below says which is which.
 
@@ -34,7 +36,7 @@ fn values_line(r: &mut Random) -> (String, u64, f64) {
     let rate = r.pick(&[40_000, 50_000, 1_000, 100_000, 9_600, any]) * factor;
     let modulation = r.below(3);
     let fade = r.pick(&[0, 1, 2, 5, 60, 86_400]);
-    let nominal = r.pick(&[0, 0, 137_500_000, 1_000_000, 100_000_000_000]);
+    let nominal = r.pick(&[0, 0, 137_500_000, 1_000_000, 100_000_000_000u64]);
     let target = r.pick(&[0, 137_500_000, 400_000_000, 1_000_000]);
     let (a, d, b) = (r.below(2), r.below(2), r.below(2));
     let line = format!("{rate} {factor} {modulation} {a} {d} {b} {fade} {nominal} {target}");
@@ -45,8 +47,11 @@ fn hex_list(list: &[f32]) -> String {
     if list.is_empty() { "-".to_string() } else { list.iter().map(|v| hex32(*v)).collect() }
 }
 
+/// How many blocks a text has, and how many pairs a block has at most; as it comes where none is given.
+type Size = Option<(u64, u64)>;
+
 /// A sound pass: the carrier comes and goes, some blocks are silent, clipped or missing.
-fn pass(r: &mut Random) -> Text {
+fn pass(r: &mut Random, size: Size) -> Text {
     let (values, modulation, decimated) = values_line(r);
     let mut lines = vec![
         b"rate factor mod adaptive dual bank fade nominal target".to_vec(),
@@ -54,9 +59,10 @@ fn pass(r: &mut Random) -> Text {
         b"flag samples".to_vec(),
     ];
     let mut signal = Signal::new(r, modulation, decimated);
-    let long = r.chance(2);
+    let long = r.chance(2) && size.is_none();
     let mut there = true;
-    for _ in 0..r.below(if long { 24 } else { 8 }) {
+    let blocks = size.map_or_else(|| r.below(if long { 24 } else { 8 }), |(blocks, _)| blocks);
+    for _ in 0..blocks {
         if r.chance(4) {
             there = !there;
         }
@@ -66,7 +72,7 @@ fn pass(r: &mut Random) -> Text {
         } else if long {
             2_048
         } else {
-            1 + r.below(60) as usize
+            1 + r.below(size.map_or(60, |(_, pairs)| pairs)) as usize
         };
         let list = signal.samples(r, pairs, there);
         lines.push(format!("{flag} {}", hex_list(&list)).into_bytes());
@@ -179,9 +185,9 @@ fn damage(r: &mut Random, t: &mut Text, kind: u64) {
     }
 }
 
-fn text(seed: u64, kind: Option<u64>) -> Vec<u8> {
+fn text(seed: u64, kind: Option<u64>, size: Size) -> Vec<u8> {
     let mut r = Random::new(seed);
-    let mut t = pass(&mut r);
+    let mut t = pass(&mut r, size);
     if let Some(kind) = kind {
         damage(&mut r, &mut t, kind);
         // A second damage now and then, so that the order of the refusals is met.
@@ -196,16 +202,17 @@ fn text(seed: u64, kind: Option<u64>) -> Vec<u8> {
 fn main() {
     let words = Words::new();
     let seed = words.number("--seed", 1);
+    let size = words.get("--blocks").map(|_| (words.number("--blocks", 0), words.number("--pairs", 60)));
     match words.get("--dir") {
         None => {
             let kind = words.get("--damage").map(|_| words.number("--damage", 0) % KINDS);
-            std::io::stdout().write_all(&text(seed, kind)).expect("standard output can be written");
+            std::io::stdout().write_all(&text(seed, kind, size)).expect("standard output can be written");
         }
         Some(dir) => {
             for s in seed..seed + words.number("--count", 100) {
                 let kind = (s % 3 != 0).then_some(s / 3 * 2 + s % 3 - 1).map(|k| k % KINDS);
                 let path = format!("{dir}/{s}.txt");
-                std::fs::write(&path, text(s, kind)).unwrap_or_else(|e| stop(&format!("{path}: {e}")));
+                std::fs::write(&path, text(s, kind, size)).unwrap_or_else(|e| stop(&format!("{path}: {e}")));
             }
         }
     }

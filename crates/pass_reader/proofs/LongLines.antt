@@ -14,15 +14,11 @@ use borrow.Author.Tests.{ltb-true, ltb-false, lt-leb}
 use Rattle.pass_reader.specs.Bytes.{same, wholeLine, fields, lineFields, space}
 use Rattle.pass_reader.specs.Numbers.{decimalShape, decimalOf}
 use Rattle.pass_reader.specs.Lines.{decimals, nineValues, valuesLine, wholePairs, samplesOf, twoFields, flagAndSamples}
-use Rattle.pass_reader.specs.Code.Places.{place}
+use Rattle.pass_reader.specs.Code.Places.{place, longestLine}
 use Rattle.pass_reader.proofs.ByteLaws.{same-eq, fields-last, fields-more, place-within}
 use Rattle.pass_reader.proofs.ValuesLaws.{ahead, none-say, unequal}
 use Rattle.pass_reader.proofs.NumberLaws.{unshaped}
 use Rattle.pass_reader.proofs.BlockLaws.{dash, both, both-none, two-fields, one-field}
-
--- the longest line of a block: 12 digits, a space, 2,048 pairs of 16 digits, a newline
-abbrev pub longestLine : ℕ
-longestLine = 32782
 
 -- a line that has no newline is refused whatever else it is
 module _ (line : List ℕ) (e : wholeLine line ≡ false) where

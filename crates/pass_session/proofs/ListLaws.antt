@@ -12,6 +12,7 @@ use lib.Ieee.{Float}
 use borrow.Author.Tests.{leb-true, ltb-true, ltb-false}
 use Rattle.sequences.specs.Folds.{fold}
 use Rattle.pass_writer.specs.Code.Buffers.{longest, written}
+use Rattle.pass_writer.proofs.WrittenLaws.{written-behind, written-length, written-within}
 use Rattle.pass_reader.specs.Bytes.{newline}
 use Rattle.pass_reader.specs.Code.Places.{place}
 use Rattle.pass_stream.specs.Stream.{lines, rest}
@@ -24,7 +25,8 @@ use Rattle.pass_setup.specs.declared.pass.Judged.{Judged}
 use Rattle.pass_setup.specs.declared.pass.Ran.{Ran}
 use Rattle.pass_setup.specs.Code.Steps.{closed}
 use Rattle.pass_setup.specs.Code.Buffers.{Printed, printed, printedWith, asPrinted, ChunkRun, past, lineRun, hasRoom, onlyIf, linesRun, asChunkRun}
-use Rattle.pass_session.proofs.TextLaws.{judged-short, input-ended-short, written-behind, written-length, written-within}
+use Rattle.pass_session.proofs.LongLists.{line-length-is}
+use Rattle.pass_session.proofs.TextLaws.{judged-short, input-ended-short}
 
 -- a run whose list waits in a buffer
 abbrev pub waiting : ChunkRun → Run
@@ -52,9 +54,9 @@ module _ (g : ChunkRun) (line : List ℕ) (room : hasRoom g ≡ true) where
   unfolding lineRun past printedWith printed
   line-fits-in = written-within (g .at) (judged (g .pass .stage) (g .pass) (g .windows) line .0 .text) (g .out) has-room (judged-short (g .pass) (g .pass .stage) (g .windows) line)
 
-  line-used : lineRun g line .used ≡ g .used + length line
-  unfolding lineRun past
-  line-used = refl
+pub line-used : (g : ChunkRun) (line : List ℕ) → lineRun g line .used ≡ g .used + length line
+unfolding lineRun past
+line-used g line = refl
 
 -- the first line of what is left, and what is left after it
 module _ (s : List ℕ) (used : ℕ) (l : List ℕ) (ls : List (List ℕ)) (e : l ∷ ls ≡ lines (drop used s)) where
@@ -74,6 +76,9 @@ module _ (s : List ℕ) (used : ℕ) (l : List ℕ) (ls : List (List ℕ)) (e : 
       first-length : List (List ℕ) → ℕ
       first-length [] = 0
       first-length (x ∷ xs) = length x
+
+  pub line-not-empty : 0 < length l
+  line-not-empty = let a = line-is in let b = line-length-is (drop used s) there in omega arith
 
   next-is : drop (lineLength (drop used s)) (drop used s) ≡ drop (used + length l) s
   next-is = drop-drop (lineLength (drop used s)) used s ∙ ap (λ (n : ℕ). drop (used + n) s) (sym line-is)
@@ -105,7 +110,7 @@ same-line : (s : List ℕ) (l : List ℕ) (ls : List (List ℕ)) (g g' : ChunkRu
     → Same s (lineRun g l) g' → Same s g g'
 unfolding fold
 same-line s l ls g g' e room m =
-    let u = line-used g l room in
+    let u = line-used g l in
     let n : ls ≡ lines (drop (lineRun g l .used) s) = lines-after s (g .used) l ls e ∙ ap (λ (k : ℕ). lines (drop k s)) (sym u) in
     let f : fold further (waiting g) (l ∷ ls) ≡ fold further (waiting (lineRun g l)) ls = ap (λ (r : Run). fold further r ls) (sym (line-waits g l room)) in
     record {
@@ -122,9 +127,9 @@ same-run s [] g e h k = record { run-is = refl; rest-is = refl; within = h; used
 same-run s (l ∷ ls) g e h k =
     go (hasRoom g) refl
     (λ (room : hasRoom g ≡ true).
-    same-run s ls (lineRun g l) (lines-after s (g .used) l ls e ∙ ap (λ (k : ℕ). lines (drop k s)) (sym (line-used g l room)))
+    same-run s ls (lineRun g l) (lines-after s (g .used) l ls e ∙ ap (λ (k : ℕ). lines (drop k s)) (sym (line-used g l)))
     (let a = line-fits-in g l room in let b = line-length g l room in omega arith)
-    (let a = line-used g l room in let b = line-ends s (g .used) l ls e k in omega arith))
+    (let a = line-used g l in let b = line-ends s (g .used) l ls e k in omega arith))
   where
     go : (b : Bool) → hasRoom g ≡ b → (hasRoom g ≡ true → Same s (lineRun g l) (linesRun ls (lineRun g l)))
         → Same s g (onlyIf b (linesRun ls (lineRun g l)) g)

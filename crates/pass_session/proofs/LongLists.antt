@@ -12,9 +12,9 @@ use lib.Ieee.{Float}
 use borrow.Author.Tests.{ne-eqb, lt-ltb, ltb-true, ltb-false}
 use Rattle.sequences.specs.Folds.{fold}
 use Rattle.pass_reader.specs.Bytes.{same, newline}
-use Rattle.pass_reader.specs.Code.Places.{place}
+use Rattle.pass_reader.specs.Code.Places.{place, longestLine}
 use Rattle.pass_reader.specs.Lines.{outside, names, blockNames, valuesLine, flagAndSamples}
-use Rattle.pass_reader.proofs.LongLines.{longestLine, long-differs, long-values, long-block}
+use Rattle.pass_reader.proofs.LongLines.{long-differs, long-values, long-block}
 use Rattle.pass_stream.specs.Stream.{lines, rest}
 use Rattle.pass_stream.specs.Code.Carrying.{lineLength}
 use Rattle.pass_stream.proofs.StreamLaws.{first-line, no-line, no-line-rest, line-within}
@@ -25,6 +25,10 @@ use Rattle.pass_setup.specs.Judging.{Judgement, lineRefused, valuesJudged, bloc
 use Rattle.pass_setup.specs.Listing.{Run, further, inputEnded, listAfter}
 use Rattle.pass_setup.specs.Code.Steps.{listed, closed}
 use Rattle.pass_setup.specs.Code.Buffers.{isStopped}
+
+number : Bool → ℕ
+number true = 1
+number false = 0
 
 -- a run that has ended stays as it is
 module _ (r : Run) (e : r .pass .stage ≡ Stopped) where
@@ -45,10 +49,22 @@ unfolding fold
 still-folded r e [] = refl
 still-folded r e (l ∷ ls) = ap (λ (x : Run). fold further x ls) (still-further r e l) ∙ still-folded r e ls
 
+stopped-stage : (s : Stage) → isStopped s ≡ true → s ≡ Stopped
+unfolding isStopped number
+stopped-stage Names h = absurd (let z : 0 ≡ 1 = ap number h in omega arith)
+stopped-stage Values h = absurd (let z : 0 ≡ 1 = ap number h in omega arith)
+stopped-stage BlockNames h = absurd (let z : 0 ≡ 1 = ap number h in omega arith)
+stopped-stage Blocks h = absurd (let z : 0 ≡ 1 = ap number h in omega arith)
+stopped-stage Stopped h = refl
+
+-- whatever follows adds nothing to its list
+pub stopped-listed : (r : Run) → isStopped (r .pass .stage) ≡ true → (text : List ℕ) → listAfter r text ≡ r .list
+unfolding listAfter
+stopped-listed r h text =
+    let e = stopped-stage (r .pass .stage) h in
+    ap (λ (x : Run). closed x (rest text)) (still-folded r e (lines text)) ∙ still-closed r e (rest text)
+
 -- what is left at the end of the input, and a long line, are refused alike
-number : Bool → ℕ
-number true = 1
-number false = 0
 
 end-at : (p : Pass) (s : Stage) → isStopped s ≡ false → (l : List ℕ) → 0 < length l → inputEnded s p l ≡ lineRefused outside p
 unfolding inputEnded isStopped number
@@ -89,7 +105,7 @@ plain-front (c ∷ a) b h = go (eqb c newline) h (plain-front a b)
     go true h more = absurd (omega arith)
     go false h more = let m = more (omega arith) in omega arith
 
-line-length-is : (t : List ℕ) → place newline t < length t → lineLength t ≡ place newline t + 1
+pub line-length-is : (t : List ℕ) → place newline t < length t → lineLength t ≡ place newline t + 1
 unfolding lineLength
 line-length-is t h = rw (lt-ltb (place newline t) (length t) h)
 

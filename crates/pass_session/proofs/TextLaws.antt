@@ -1,21 +1,18 @@
 -- What a line adds to the list is never longer than the list's longest line, so it is written where there is room for that.
-use mathlib.Core.Path.{_≡_, refl, ap, sym, _∙_}
 use mathlib.Core.Bool.{Bool, true, false, cond}
-use mathlib.Core.List.{List, _++_}
+use mathlib.Core.List.{List}
 use mathlib.Core.Option.{Option, none, some}
-use Prim.Native.Nat.{ℕ, _+_, _≤_}
+use Prim.Native.Nat.{ℕ, _≤_}
 use native.Mathlib.Omega.{arith}
-use lib.Dec.{eqb, leb}
-use lib.ListN.{length, take, drop, length-append, length-drop}
-use lib.Seq.{take-at, length-take-le}
+use lib.Dec.{eqb}
+use lib.ListN.{length}
 use lib.Ieee.{Float}
-use borrow.Author.Tests.{le-leb}
 use Rattle.channel_model.specs.declared.Answer.{Answer}
 use Rattle.channel_model.specs.declared.Channel.{Channel}
 use Rattle.channel_model.specs.Blocks.{Outcome}
 use Rattle.pass_reader.specs.Lines.{outside, names, blockNames, valuesLine, flagAndSamples}
 use Rattle.pass_reader.specs.Bytes.{same}
-use Rattle.pass_writer.specs.Code.Buffers.{longest, laid, written}
+use Rattle.pass_writer.specs.Code.Buffers.{longest}
 use Rattle.pass_writer.proofs.TextLengths.{short-refusal, short-block}
 use Rattle.pass_setup.specs.declared.pass.Stage.{Stage}
 use Rattle.pass_setup.specs.declared.pass.Stage.the-variants.{Names, Values, BlockNames, Blocks, Stopped}
@@ -80,28 +77,3 @@ module _ (p : Pass) where
   input-ended-short BlockNames left = refused-short outside
   input-ended-short Blocks left = test-short (eqb (length left) 0) _ _ (omega arith) (refused-short outside)
   input-ended-short Stopped left = omega arith
-
--- a text that is written where there is room
-module _ (at : ℕ) (text old : List ℕ) (room : at + longest ≤ length old) (short : length text ≤ longest) where
-  laid-here : written at text old ≡ (at + length text, laid at text old)
-  unfolding written
-  laid-here = rw (le-leb (at + longest) (length old) room)
-
-  front : length (take at old ++ text) ≡ at + length text
-  front = length-append (take at old) text ∙ ap (λ (n : ℕ). n + length text) (length-take-le at old (omega arith))
-
-  pub written-behind : take (written at text old .0) (written at text old .1) ≡ take at old ++ text
-  unfolding laid
-  written-behind =
-      ap (λ (x : ℕ × List ℕ). take (x .0) (x .1)) laid-here ∙ take-at (take at old ++ text) (drop (at + length text) old) (at + length text) front
-
-  pub written-length : length (written at text old .1) ≡ length old
-  unfolding laid
-  written-length =
-      let d : length (drop (at + length text) old) + (at + length text) ≡ length old = simp length-drop (omega arith) in
-      let a = length-append (take at old ++ text) (drop (at + length text) old) in
-      let f = front in
-      ap (λ (x : ℕ × List ℕ). length (x .1)) laid-here ∙ a ∙ omega arith
-
-  pub written-within : written at text old .0 ≤ length old
-  written-within = let e : written at text old .0 ≡ at + length text = ap (λ (x : ℕ × List ℕ). x .0) laid-here in omega arith

@@ -99,6 +99,10 @@ pub wrote-as : {at r : ℕ} {a l f : List ℕ} (b : List ℕ) → a ≡ b → Wr
 wrote-as b e w = rw (← e) w
 
 -- fields with the byte after each, one behind the other, are a line
+pub joined-two : (a b : List ℕ) → (a ++ (32 ∷ [])) ++ (b ++ (10 ∷ [])) ≡ lineOf a (b ∷ [])
+unfolding lineOf
+joined-two a b = simp append-assoc
+
 pub joined-three : (a b c : List ℕ) → (a ++ (32 ∷ [])) ++ (b ++ (32 ∷ [])) ++ (c ++ (10 ∷ [])) ≡ lineOf a (b ∷ c ∷ [])
 unfolding lineOf
 joined-three a b c = simp append-assoc

@@ -8,7 +8,7 @@ use lib.ListN.{length, length-append}
 use Rattle.pass_reader.specs.Bytes.{bytes}
 use Rattle.pass_writer.specs.declared.lines.Shown.{Shown}
 use Rattle.pass_writer.specs.Digits.{glyphOf, decimalFrom, decimalText, floatText}
-use Rattle.pass_writer.specs.Lines.{lineOf, blockText, refusalText}
+use Rattle.pass_writer.specs.Lines.{lineOf, blockText, refusalText, failureText}
 use Rattle.pass_writer.specs.Code.Buffers.{longest}
 use Rattle.pass_writer.proofs.DigitLaws.{length-float}
 
@@ -42,6 +42,14 @@ short-refusal line number =
     let x = line-more (bytes "refused") (decimalText line) (decimalText number ∷ []) in
     let y = line-more (decimalText line) (decimalText number) [] in
     let z = line-last (decimalText number) in
+    omega arith
+
+pub short-failure : (error : ℕ) → length (failureText error) ≤ longest
+unfolding failureText
+short-failure error =
+    let a = short-number error in
+    let x = line-more (bytes "failed") (decimalText error) [] in
+    let y = line-last (decimalText error) in
     omega arith
 
 pub short-block : (count : ℕ) (a : Shown) → length (blockText count a) ≤ longest

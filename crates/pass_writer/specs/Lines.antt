@@ -1,4 +1,4 @@
--- The lines of the list: names, one line for each block, and a refusal. Definitions only.
+-- The lines of the list: names, one line for each block, a refusal, and a read that failed. Definitions only.
 use mathlib.Core.Bool.{cond}
 use mathlib.Core.List.{List, [], _∷_, _++_}
 use Prim.Native.Nat.{ℕ}
@@ -23,3 +23,7 @@ blockText count a =
 -- the line of a refusal: its line number and its refusal number
 unfoldable pub refusalText : ℕ → ℕ → List ℕ
 refusalText line number = lineOf (bytes "refused") (decimalText line ∷ decimalText number ∷ [])
+
+-- the last line where a read failed: the system's number of the error. No complete list has it
+unfoldable pub failureText : ℕ → List ℕ
+failureText error = lineOf (bytes "failed") (decimalText error ∷ [])

@@ -4,7 +4,7 @@ ghost use mathlib.Core.Path.{_≡_};
 ghost use Prim.Native.Nat.{_+_, _≤_};
 ghost use lib.Dec.{leb};
 ghost use lib.ListN.{length};
-ghost use Rattle.pass_writer.specs.Lines.{namesText, blockText, refusalText};
+ghost use Rattle.pass_writer.specs.Lines.{namesText, blockText, refusalText, failureText};
 ghost use Rattle.pass_writer.specs.Code.Buffers.{longest, written, Wrote};
 
 // What the list shows of a block's answer.
@@ -69,6 +69,14 @@ fn put_refusal(out: &mut [u8], at: usize, line: u64, number: u64) -> usize
     crate::digits::put_number(out, p2, number, 10)
 }
 
+fn put_failure(out: &mut [u8], at: usize, error: u64) -> usize
+    requires { ⌜ at + 135 ≤ length (now out) ⌝ }
+    ensures { λ r. ⌜ Wrote at (failureText error) (now (out .entry)) r (now (out .exit)) ⌝ }
+{
+    let p1 = put_bytes(out, at, b"failed ");
+    crate::digits::put_number(out, p1, error, 10)
+}
+
 // The line of names, which is always first. Every line is written from `at` on, and the answer is the place after it.
 pub fn names_line(out: &mut [u8], at: usize) -> usize
     ensures { λ r. ⌜ (r, now (out .exit)) ≡ written at namesText (now (out .entry)) ⌝ }
@@ -97,4 +105,14 @@ pub fn refusal_line(out: &mut [u8], at: usize, line: u64, number: u64) -> usize
         return at;
     }
     put_refusal(out, at, line, number)
+}
+
+// The last line where a read failed: the system's number of the error.
+pub fn failure_line(out: &mut [u8], at: usize, error: u64) -> usize
+    ensures { λ r. ⌜ (r, now (out .exit)) ≡ written at (failureText error) (now (out .entry)) ⌝ }
+{
+    if !has_room(out.len(), at) {
+        return at;
+    }
+    put_failure(out, at, error)
 }

@@ -1,0 +1,2 @@
+-- Laws of a turn of the stream.
+pub mod TurnedLaws

@@ -1,0 +1,3 @@
+-- Laws of what a read answers, and of the stream between two turns.
+pub mod ReadLaws
+pub mod StandingLaws

@@ -1,0 +1,2 @@
+-- What only proofs and private functions cite.
+pub mod Standing

@@ -1,0 +1,2 @@
+-- Laws of a turn.
+pub mod TurnLaws

@@ -1,0 +1,2 @@
+-- The list of a pass text, turn by turn.
+pub mod Code

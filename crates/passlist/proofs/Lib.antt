@@ -1,2 +1,0 @@
--- Laws of the stream's places.
-pub mod FlowLaws

@@ -1,2 +1,0 @@
--- What only proofs and private functions cite.
-pub mod Flow

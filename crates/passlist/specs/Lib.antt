@@ -1,2 +1,0 @@
--- The stream of `passlist`.
-pub mod Code
