@@ -13,11 +13,11 @@ use mir.Syntax.{w32, w64}
 use mir.Val.{bits, hbits, sel, toZ, Fits}
 use mir.Facts.{fits-below}
 use lib.Signed.{ltZ, nonNeg}
-use borrow.Author.Tests.{ltb-true, ne-eqb, eqb-false}
+use borrow.Author.Tests.{ltb-true, eq-eqb, ne-eqb, eqb-false}
 use Rattle.io.specs.Counts.{clamped}
 use Rattle.pass_transfer.specs.declared.Got.{Got}
 use Rattle.pass_transfer.specs.declared.Got.the-variants.{Bytes, End, Failed}
-use Rattle.pass_transfer.specs.Code.Standing.{gotOf, Brought}
+use Rattle.pass_transfer.specs.Code.Standing.{gotOf, Brought, errorOf, isPassing}
 
 failure-at : (z : ℤ) (most : ℕ) → ltZ z (pos 0) ≡ true → Failed ≡ gotOf z most
 unfolding gotOf
@@ -77,3 +77,28 @@ brought g z most n e m = subst (λ (k : ℕ). Brought g k) m (subst (λ (x : Got
 -- how long a part is that is lent from a place on
 pub part-count : (n : ℕ) (l : List ℕ) → length (take (length l - n) (drop n l)) ≡ length l - n
 part-count n l = let d : length (drop n l) ≡ length l - n = simp length-drop refl in length-take-le (length l - n) (drop n l) (omega arith)
+
+-- an error's number
+number-none : (z : ℤ) → ltZ z (pos 0) ≡ true → 0 ≡ errorOf z
+number-none (pos k) h = absurd (let z = ltb-true k 0 h in omega arith)
+number-none (negsuc k) h = refl
+
+number-at : (z : ℤ) → ltZ z (pos 0) ≡ false → natAbs z ≡ errorOf z
+number-at (pos k) h = refl
+number-at (negsuc k) h = absurd (let z : _≡_ {A = ℕ} 0 1 = cc in omega arith)
+
+module _ (z z' : ℤ) (q : z' ≡ z) where
+  pub no-number : ltZ z' (pos 0) ≡ true → 0 ≡ errorOf z
+  no-number h = number-none z' h ∙ ap errorOf q
+
+  pub number-is : ltZ z' (pos 0) ≡ false → natAbs z' ≡ errorOf z
+  number-is h = number-at z' h ∙ ap errorOf q
+
+-- whether a call is made again
+pub waits-again : (e : ℕ) → e ≡ 11 → true ≡ isPassing e
+unfolding isPassing
+waits-again e h = rw (eq-eqb e 11 h)
+
+pub comes-or-not : (e : ℕ) → (e ≡ 11 → ⊥) → eqb e 4 ≡ isPassing e
+unfolding isPassing
+comes-or-not e h = rw (ne-eqb e 11 h)

@@ -1,6 +1,7 @@
 // One write or one read at a time, and where the stream of a pass text stands between them (the scope, "The pass text and its list"): what is made of the list is
 // written, and more of the text is read. That the two calls of the system bring and take these very bytes no contract can say; it is seen in `read_once`,
 // `write_once` and `write_waiting`, three lines each.
+ghost use mathlib.Core.Bool.{cond};
 ghost use mathlib.Core.List.{List};
 ghost use mathlib.Core.Path.{_≡_};
 ghost use Prim.Native.Nat.{ℕ, _+_, _-_, _≤_, _<_};
@@ -8,7 +9,7 @@ ghost use lib.ListN.{length, take};
 ghost use Rattle.pass_writer.specs.Code.Buffers.{longest};
 ghost use Rattle.pass_setup.specs.Listing.{Run};
 ghost use Rattle.pass_transfer.specs.Account.{isLast};
-ghost use Rattle.pass_transfer.specs.Code.Standing.{gotOf, Brought, isOver, isHeld, isDue, Sizes, Countable, Counted, Placed, Stands, Asking, givenUp, withMore, withEnd, withLast, accountOf};
+ghost use Rattle.pass_transfer.specs.Code.Standing.{gotOf, Brought, errorOf, isPassing, isOver, isHeld, isDue, Sizes, Countable, Counted, Placed, Stands, Asking, givenUp, withMore, withEnd, withLast, accountOf};
 
 // What comes when all that is made of the list is written: more of the text is read; the lines that are held are taken; the text has ended, and what is held of
 // a line is all that is left; or nothing, since a line was refused, since the list is at its end, or since a read failed.
@@ -101,26 +102,31 @@ fn write_waiting(s: State, out: &[u8], output: i32) -> usize
     write_once(&out[from..at], output)
 }
 
-// The system's number of the error of the call before.
-fn error_number() -> u64 {
-    let e = os::errno();
+// An error as the system numbers it.
+fn number_of(e: i32) -> u64
+    ensures { λ r. ⌜ r ≡ errorOf e ⌝ }
+{
     if e < 0 {
         return 0;
     }
     e as u64
 }
 
-// Whether the call before is to be made again: a signal came before it, or it would have had to wait, which is done here.
-fn comes_again() -> bool {
+// The error of the call before.
+fn last_error() -> u64 {
     let e = os::errno();
-    if e == libc::EINTR {
-        return true;
-    }
-    if e == libc::EAGAIN {
+    number_of(e)
+}
+
+// Whether a call that failed so is made again: a signal came before it (EINTR), or it would have had to wait (EAGAIN), which is done here.
+fn comes_again(error: u64) -> bool
+    ensures { λ r. ⌜ r ≡ isPassing error ⌝ }
+{
+    if error == 11 {
         pass_pause::pause();
         return true;
     }
-    false
+    error == 4
 }
 
 // A write took nothing: the run ends here.
@@ -142,7 +148,8 @@ fn send(s: State, out: &[u8], output: i32) -> State
 {
     let n = write_waiting(s, out, output);
     if n == 0 {
-        if comes_again() {
+        let error = last_error();
+        if comes_again(error) {
             return s;
         }
         return give_up(s, n);
@@ -205,15 +212,16 @@ pub fn closing(s: State, at: usize, next: Next, error: u64) -> State
 }
 
 // A read failed: it is made again, or the list is cut here.
-fn at_failure(s: State, out: &mut [u8]) -> State
+fn at_failure(s: State, out: &mut [u8], error: u64) -> State
     requires { ⌜ (s .next ≡ Next.Read) × (s .from ≡ s .at) × (longest ≤ length (now out)) ⌝ }
     ensures { λ r. ⌜ ((g : Run) (b : List ℕ) → Stands s g b (now (out .entry)) → Stands r g b (now (out .exit))) ⌝ }
     ensures { λ r. ⌜ Counted s r ⌝ }
+    ensures { λ r. ⌜ r .next ≡ cond (isPassing error) Next.Read Next.Failed ⌝ }
+    ensures { λ r. ⌜ r .error ≡ cond (isPassing error) (s .error) error ⌝ }
 {
-    if comes_again() {
+    if comes_again(error) {
         return s;
     }
-    let error = error_number();
     os::fail(b"passlist: read");
     let n = pass_writer::lines::failure_line(out, 0, error);
     let next = Next::Failed;
@@ -231,7 +239,10 @@ fn fetch(s: State, buf: &mut [u8], out: &mut [u8], input: i32) -> State
     match got {
         Got::Bytes(n) => came(s, n),
         Got::End => at_end(s),
-        Got::Failed => at_failure(s, out),
+        Got::Failed => {
+            let error = last_error();
+            at_failure(s, out, error)
+        }
     }
 }
 

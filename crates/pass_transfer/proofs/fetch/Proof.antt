@@ -30,6 +30,9 @@ at-end-requires c κs = search needs
 enum-told-2 : tie.Need-enum-told-2
 enum-told-2 c = search needs
 
+last-error-requires : tie.Need-last-error-requires
+last-error-requires c κs = search needs
+
 at-failure-requires : tie.Need-at-failure-requires
 at-failure-requires c κs = search needs
 
@@ -69,7 +72,8 @@ same-length-4 c = search needs
 
 returns-3 : tie.Need-returns-3
 returns-3 c =
-    let r = c .before .before .before .before .before .before .before .before .read-behind in (λ g h. c .before .before .at-failure .ensures .0 g _ (stands-read _ g _ _ _ h (r .kept .0) (r .ensures .1)), c .before .before .at-failure .ensures .1)
+    let r = c .before .before .before .before .before .before .before .before .before .read-behind in
+    let t = c .before .before .at-failure .ensures in (λ g h. t .0 g _ (stands-read _ g _ _ _ h (r .kept .0) (r .ensures .1)), t .1 .0)
 
 pub fetch-spec : {M : Type 1} → statement M
 fetch-spec =
@@ -81,6 +85,7 @@ fetch-spec =
     enum-told
     at-end-requires
     enum-told-2
+    last-error-requires
     at-failure-requires
     same-length
     returns

@@ -8,6 +8,9 @@ use Rattle.pass_transfer.proofs.send.Tie as tie
 write-waiting-requires : tie.Need-write-waiting-requires
 write-waiting-requires c κs = search needs
 
+last-error-requires : tie.Need-last-error-requires
+last-error-requires c κs = search needs
+
 comes-again-requires : tie.Need-comes-again-requires
 comes-again-requires c κs = search needs
 
@@ -19,7 +22,7 @@ give-up-requires c κs = search needs
 
 returns-2 : tie.Need-returns-2
 returns-2 c =
-    let s = c .before .before .before .before .before .before in (
+    let s = c .before .before .before .before .before .before .before in (
       λ g b h. stands-as _ _ g b _ (c .give-up .ensures) (stands-given-up (s .args .s) g b _ h),
       counted-as _ _ (s .args .s) (c .give-up .ensures) (omega arith) (omega arith),
     )
@@ -41,6 +44,7 @@ send-spec =
     tie.close
     (tie.spec
     write-waiting-requires
+    last-error-requires
     comes-again-requires
     returns
     give-up-requires

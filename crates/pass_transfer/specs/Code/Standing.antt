@@ -1,6 +1,6 @@
 -- Where the stream stands between two turns. Definitions only.
 use mathlib.Core.Path.{_≡_}
-use mathlib.Core.Bool.{Bool, cond, true, false}
+use mathlib.Core.Bool.{Bool, cond, true, false, _||_}
 use mathlib.Core.List.{List, [], _++_}
 use Prim.Native.Nat.{ℕ, _+_, _-_, _≤_, _<_, min}
 use lib.Dec.{eqb, ltb}
@@ -38,6 +38,15 @@ unfoldable pub Brought : Got → ℕ → Type 0
 Brought (Bytes n) most = (0 < n) × (n ≤ most)
 Brought End most = Unit {0}
 Brought Failing most = Unit {0}
+
+-- an error as the system numbers it; none is negative
+abbrev pub errorOf : ℤ → ℕ
+errorOf (pos n) = n
+errorOf (negsuc n) = 0
+
+-- whether a call that failed so is made again: EAGAIN, EINTR
+unfoldable pub isPassing : ℕ → Bool
+isPassing error = eqb error 11 || eqb error 4
 
 -- whether the run is over: a write failed, or all is written and nothing comes next
 abbrev pub isOver : State → Bool
