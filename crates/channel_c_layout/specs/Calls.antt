@@ -5,8 +5,6 @@ use mathlib.Core.List.{List}
 use lib.Ieee.{Float}
 use Rattle.channel_model.specs.declared.Settings.{Settings}
 use Rattle.channel_model.specs.declared.Carriers.{Carriers}
-use Rattle.channel_model.specs.declared.Channel.{Channel}
-use Rattle.channel_model.specs.declared.Returned.{Returned}
 use Rattle.channel_model.specs.Opening.{opened}
 use Rattle.channel_model.specs.Assigning.{assigned}
 use Rattle.channel_model.specs.Releasing.{released}
@@ -16,13 +14,7 @@ use Rattle.channel_c_layout.specs.declared.plain_channel.PlainChannel.{P
 use Rattle.channel_c_layout.specs.declared.plain_calls.PlainReturned.{PlainReturned}
 use Rattle.channel_c_layout.specs.declared.plain_calls.PlainBlocked.{PlainBlocked}
 use Rattle.channel_c_layout.specs.declared.plain_calls.TwelveFigures.{TwelveFigures}
-use Rattle.channel_c_layout.specs.Channels.{plainChannel, realChannel}
-
-unfoldable pub plainReturned : Returned → PlainReturned
-plainReturned r = record { refusal = r .refusal; channel = plainChannel (r .channel) }
-
-unfoldable pub plainOutcome : Outcome Channel → Outcome PlainChannel
-plainOutcome o = record { answer = o .answer; channel = plainChannel (o .channel); first = o .first; second = o .second; windows = o .windows }
+use Rattle.channel_c_layout.specs.Channels.{plainChannel, realChannel, givenBack}
 
 -- what a call returned and what then stood in the three lent memories
 unfoldable pub leftC : PlainBlocked → List Float → List Float → List Float → Outcome PlainChannel
@@ -30,15 +22,17 @@ leftC r first second windows = record { answer = r .answer; channel = r .channel
 
 -- gibsumac_open
 unfoldable pub openedC : Settings → PlainReturned
-openedC s = plainReturned (opened s)
+openedC s = let r = opened s in record { refusal = r .refusal; channel = plainChannel (r .channel) }
 
 -- gibsumac_assign
 unfoldable pub assignedC : PlainChannel → Carriers → PlainReturned
-assignedC p a = plainReturned (assigned (realChannel p) a)
+assignedC p a = let r = assigned (realChannel p) a in record { refusal = r .refusal; channel = givenBack (r .refusal) p (r .channel) }
 
 -- gibsumac_block, by its flag and its three lent memories at entry
 unfoldable pub blockedC : PlainChannel → ℕ → List Float → List Float → List Float → Outcome PlainChannel
-blockedC p flag first second windows = plainOutcome (blocked (realChannel p) (record { flag = flag; first = first; second = second }) windows)
+blockedC p flag first second windows =
+    let o = blocked (realChannel p) (record { flag = flag; first = first; second = second }) windows in
+    record { answer = o .answer; channel = givenBack (o .answer .refusal) p (o .channel); first = o .first; second = o .second; windows = o .windows }
 
 -- gibsumac_release
 unfoldable pub releasedC : PlainChannel → PlainChannel

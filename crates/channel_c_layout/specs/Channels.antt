@@ -1,6 +1,7 @@
 -- A channel in C's layout, and back. Definitions only.
-use Prim.Native.Nat.{_≤_}
-use mathlib.Core.Bool.{Bool, true, false}
+use Prim.Native.Nat.{ℕ}
+use mathlib.Core.Bool.{Bool, true, false, cond}
+use lib.Dec.{eqb}
 use Rattle.channel_model.specs.declared.Status.{Status}
 use Rattle.channel_model.specs.declared.Status.the-variants.{Idle, Assigned}
 use Rattle.channel_model.specs.declared.Channel.{Channel}
@@ -58,9 +59,6 @@ realChannel c =
       reading = c .reading;
     }
 
--- the modulation of each tracker is one of the scope's numbers
-pub record Numbered (c : PlainChannel) : Type 0 where
-  pub pll : c .pll .modulation ≤ 2
-  pub t0 : c .t0 .modulation ≤ 2
-  pub t1 : c .t1 .modulation ≤ 2
-  pub t2 : c .t2 .modulation ≤ 2
+-- The struct after a call that left the channel c and answered this refusal: of a refused call it is the one that was given, to the last number.
+unfoldable pub givenBack : ℕ → PlainChannel → Channel → PlainChannel
+givenBack refusal given c = cond (eqb refusal 0) (plainChannel c) given

@@ -1,7 +1,7 @@
 // A channel in the layout of C.
 ghost use mathlib.Core.Path.{_≡_};
 ghost use Rattle.channel_model.specs.Assigning.{idle};
-ghost use Rattle.channel_c_layout.specs.Channels.{statusOf, plainChannel, realChannel};
+ghost use Rattle.channel_c_layout.specs.Channels.{statusOf, plainChannel, realChannel, givenBack};
 use crate::plain_tracker::PlainTracker;
 use crate::plain_tracker::to_plain;
 use crate::plain_tracker::to_real;
@@ -116,4 +116,14 @@ pub fn to_real_channel(c: PlainChannel) -> Channel
         is_locked: c.is_locked,
         reading,
     }
+}
+
+// The struct after a call. A refused one gives back the struct that it was given, so also a modulation over 2, which stands for no channel of its own.
+pub fn given_back(refusal: u64, given: PlainChannel, c: Channel) -> PlainChannel
+    ensures { λ r. ⌜ r ≡ givenBack refusal given c ⌝ }
+{
+    if refusal != 0 {
+        return given;
+    }
+    to_plain_channel(c)
 }

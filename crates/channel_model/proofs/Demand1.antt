@@ -119,7 +119,7 @@ demand1 =
       openNames = opened-refusal;
       openReturns = opened-idle;
       names = call-names;
-      returns = λ c k held h. call-returns c k h;
+      returns = call-returns;
       leaves = call-leaves;
       tells = call-tells;
     }

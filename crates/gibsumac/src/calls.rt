@@ -7,6 +7,7 @@ use channel_c_layout::plain_calls::PlainBlocked;
 use channel_c_layout::plain_calls::PlainReturned;
 use channel_c_layout::plain_calls::TwelveFigures;
 use channel_c_layout::plain_channel::PlainChannel;
+use channel_c_layout::plain_channel::given_back;
 use channel_c_layout::plain_channel::to_plain_channel;
 use channel_c_layout::plain_channel::to_real_channel;
 use channel_model::Carriers;
@@ -37,7 +38,7 @@ pub extern "C" fn gibsumac_assign(channel: PlainChannel, carriers: Carriers) -> 
 {
     let real = to_real_channel(channel);
     let r = channel_control::assign::assign(real, carriers);
-    let c = to_plain_channel(r.channel);
+    let c = given_back(r.refusal, channel, r.channel);
     PlainReturned {
         refusal: r.refusal,
         channel: c,
@@ -57,8 +58,8 @@ pub extern "C" fn gibsumac_block(
 {
     let real = to_real_channel(channel);
     let r = channel_block::block::block(real, flag, first, second, windows);
-    let c = to_plain_channel(r.channel);
     let answer = r.answer;
+    let c = given_back(answer.refusal, channel, r.channel);
     PlainBlocked { answer, channel: c }
 }
 

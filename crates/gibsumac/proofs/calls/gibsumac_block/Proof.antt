@@ -10,8 +10,8 @@ to-real-channel-requires c κs = search needs
 block-requires : tie.Need-block-requires
 block-requires c κs = search needs
 
-to-plain-channel-requires : tie.Need-to-plain-channel-requires
-to-plain-channel-requires c κs = search needs
+given-back-requires : tie.Need-given-back-requires
+given-back-requires c κs = search needs
 
 same-length : tie.Need-same-length
 same-length c = search needs
@@ -25,7 +25,7 @@ same-length-3 c = search needs
 returns : tie.Need-returns
 returns c =
     let a = c .before .before .before .before .before .before .before .before in
-    left-is _ _ _ _ _ _ _ _ _ (a .block .ensures) (c .before .before .before .before .before .before .before .before .before .before .before .before .to-real-channel .ensures) (c .before .to-plain-channel .ensures)
+    left-is _ _ _ _ _ _ _ _ _ (a .block .ensures) (c .before .before .before .before .before .before .before .before .before .before .before .before .to-real-channel .ensures) (c .given-back .ensures)
 
 pub gibsumac-block-spec : {M : Type 1} → statement M
 gibsumac-block-spec =
@@ -33,7 +33,7 @@ gibsumac-block-spec =
     (tie.spec
     to-real-channel-requires
     block-requires
-    to-plain-channel-requires
+    given-back-requires
     same-length
     same-length-2
     same-length-3
