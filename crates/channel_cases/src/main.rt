@@ -4,6 +4,8 @@ mod line;
 mod number;
 mod words;
 
+ghost use mathlib.Core.Path.{_≡_};
+ghost use Rattle.channel_cases.specs.Code.Groups.{oneMore, withCase};
 use libc::STDOUT_FILENO;
 
 // A group so far: whether a title started it, its cases, and those that hold.
@@ -13,7 +15,9 @@ struct Group {
     all: u64,
 }
 
-fn counted(n: u64) -> u64 {
+fn counted(n: u64) -> u64
+    ensures { λ r. ⌜ r ≡ oneMore n ⌝ }
+{
     n % 0x1_0000_0000 + 1
 }
 
@@ -37,7 +41,9 @@ fn say_differs(case: &[u8]) {
     io::write_all(STDOUT_FILENO, case);
 }
 
-fn judge(case: &[u8], g: Group) -> Group {
+fn judge(case: &[u8], g: Group) -> Group
+    ensures { λ r. ⌜ r ≡ withCase g (now (case .entry)) ⌝ }
+{
     let all = counted(g.all);
     if line::holds(case) {
         return Group {

@@ -1,13 +1,21 @@
 // A channel between two calls, and the calls.
-ghost use Prim.Native.Nat.{_≤_};
-use channel_block::block::block;
+ghost use mathlib.Core.Path.{_≡_};
+ghost use Rattle.channel_model.specs.Answers.{refusedAnswer};
+ghost use Rattle.channel_model.specs.Releasing as model;
+ghost use Rattle.channel_script.specs.Code.Letters.{standsFor};
+ghost use Rattle.channel_script.specs.Code.Playing as meant;
+use crate::block::lists_of;
+use crate::block::no_lists;
+use crate::block::run_block;
+use crate::block::with_block;
+use crate::letters::is_one_of;
 use channel_control::assign::assign;
 use channel_control::figures::figures;
 use channel_control::release::release;
 use channel_model::Answer;
-use channel_model::Blocked;
 use channel_model::Carriers;
 use channel_model::Channel;
+use channel_model::Returned;
 use channel_model::Settings;
 
 // A block to come: its flag, how many numbers its lists and its window memory have, and what stands in them. The first list begins with re and
@@ -24,15 +32,17 @@ pub struct Lists {
     pub jumps: bool,
 }
 
-pub struct Session {
-    // Whether every letter so far stood for something.
-    pub known: bool,
+// What is set for the calls to come.
+pub struct Plan {
     pub settings: Settings,
     pub carriers: Carriers,
     pub lists: Lists,
-    pub channel: Channel,
     // The tracker whose values are set: 0, 1 or 2, and above that `pll_tracker`.
     pub place: u64,
+}
+
+// What the calls so far showed.
+pub struct Seen {
     // The number that the last open or assign answered.
     pub number: u64,
     // What the last block answered, the one before it, and one that is held.
@@ -50,8 +60,19 @@ pub struct Session {
     pub figures: [f32; 12],
 }
 
+// In parts, so that a function takes no more than it needs.
+pub struct Session {
+    // Whether every letter so far stood for something.
+    pub known: bool,
+    pub plan: Plan,
+    pub seen: Seen,
+    pub channel: Channel,
+}
+
 // A carrier at 40,000 samples a second, where a fade lasts as many blocks as seconds.
-fn first_settings() -> Settings {
+fn first_settings() -> Settings
+    ensures { λ r. ⌜ r ≡ meant.firstSettings ⌝ }
+{
     Settings {
         rate: 40000,
         factor: 1,
@@ -65,7 +86,9 @@ fn first_settings() -> Settings {
     }
 }
 
-fn first_carriers() -> Carriers {
+fn first_carriers() -> Carriers
+    ensures { λ r. ⌜ r ≡ meant.firstCarriers ⌝ }
+{
     Carriers {
         nominal: 0.0,
         target: 137500000.0,
@@ -74,22 +97,9 @@ fn first_carriers() -> Carriers {
     }
 }
 
-// A block without samples.
-fn no_lists(flag: u64) -> Lists {
-    Lists {
-        flag,
-        first: 0,
-        second: 0,
-        windows: 8192,
-        re: 0.5,
-        im: 0.5,
-        other: 0.5,
-        fill: 0.5,
-        jumps: false,
-    }
-}
-
-fn no_answer() -> Answer {
+fn no_answer() -> Answer
+    ensures { λ r. ⌜ r ≡ refusedAnswer 0 ⌝ }
+{
     Answer {
         refusal: 0,
         locked: false,
@@ -105,22 +115,12 @@ fn no_answer() -> Answer {
     }
 }
 
-// Before the first call: a channel that was opened with the settings above.
-pub fn new_session() -> Session {
-    let settings = first_settings();
-    let carriers = first_carriers();
-    let lists = no_lists(0);
+fn nothing_seen(number: u64) -> Seen
+    ensures { λ r. ⌜ r ≡ meant.nothingSeen number ⌝ }
+{
     let answer = no_answer();
-    let r = channel_open::open(settings);
-    let channel = r.channel;
-    Session {
-        known: true,
-        settings,
-        carriers,
-        lists,
-        channel,
-        place: 3,
-        number: r.refusal,
+    Seen {
+        number,
         answer,
         before: answer,
         held: answer,
@@ -133,233 +133,150 @@ pub fn new_session() -> Session {
     }
 }
 
-fn opened(s: Session) -> Session {
-    let r = channel_open::open(s.settings);
+fn first_plan() -> Plan
+    ensures { λ r. ⌜ r ≡ meant.firstPlan ⌝ }
+{
+    let settings = first_settings();
+    let carriers = first_carriers();
+    let lists = no_lists(0);
+    Plan {
+        settings,
+        carriers,
+        lists,
+        place: 3,
+    }
+}
+
+// Before the first call: a channel that was opened with the settings above.
+pub fn new_session() -> Session
+    ensures { λ r. ⌜ r ≡ meant.firstSession ⌝ }
+{
+    let plan = first_plan();
+    let r = channel_open::open(plan.settings);
     let channel = r.channel;
+    let seen = nothing_seen(r.refusal);
+    Session {
+        known: true,
+        plan,
+        seen,
+        channel,
+    }
+}
+
+fn with_number(e: Seen, number: u64) -> Seen
+    ensures { λ r. ⌜ r ≡ meant.withNumber e number ⌝ }
+{
+    let mut f = e;
+    f.number = number;
+    f
+}
+
+// The channel that open or assign returned, and its number.
+fn returned(s: Session, r: Returned) -> Session
+    ensures { λ t. ⌜ t ≡ meant.afterReturn s r ⌝ }
+{
+    let channel = r.channel;
+    let seen = with_number(s.seen, r.refusal);
     let mut t = s;
     t.channel = channel;
-    t.number = r.refusal;
+    t.seen = seen;
     t
 }
 
-fn assigned(s: Session) -> Session {
-    let r = assign(s.channel, s.carriers);
-    let channel = r.channel;
-    let mut t = s;
-    t.channel = channel;
-    t.number = r.refusal;
-    t
-}
-
-fn released(s: Session) -> Session {
+fn released(s: Session) -> Session
+    ensures { λ r. ⌜ r ≡ meant.sessionOf s (s .seen) (model.released (s .channel)) ⌝ }
+{
     let channel = release(s.channel);
     let mut t = s;
     t.channel = channel;
     t
 }
 
-// The real part of sample i of a list that no tracker follows: quarter turns 0, 1, 3, 2, 2, 3, 1, 0 and again.
-fn cosine(i: usize) -> f32 {
-    match i % 8 {
-        0 => 1.0,
-        3 => -1.0,
-        4 => -1.0,
-        7 => 1.0,
-        _ => 0.0,
-    }
-}
-
-fn sine(i: usize) -> f32 {
-    match i % 8 {
-        1 => 1.0,
-        2 => -1.0,
-        5 => -1.0,
-        6 => 1.0,
-        _ => 0.0,
-    }
-}
-
-fn jumps() -> [f32; 8194] {
-    let mut list = [0.0f32; 8194];
-    for i in 0..4096 {
-        list[2 * i] = cosine(i);
-        list[2 * i + 1] = sine(i);
-    }
-    list
-}
-
-fn first_list(l: Lists) -> [f32; 8194] {
-    if l.jumps {
-        return jumps();
-    }
-    let mut list = [l.fill; 8194];
-    list[0] = l.re;
-    list[1] = l.im;
-    list
-}
-
-fn second_list(l: Lists) -> [f32; 8194] {
-    let mut list = [l.fill; 8194];
-    list[0] = l.other;
-    list
-}
-
-fn at_most(n: usize, most: usize) -> usize
-    ensures { λ r. ⌜ r ≤ most ⌝ }
+// The answer is held.
+fn holding(e: Seen) -> Seen
+    ensures { λ r. ⌜ r ≡ meant.holding e ⌝ }
 {
-    if n < most { n } else { most }
+    let a = e.answer;
+    let mut f = e;
+    f.held = a;
+    f
 }
 
-// Window memory is lent as sevens.
-fn is_touched(windows: &[f64]) -> bool {
-    let mut touched = false;
-    let mut i = 0;
-    while i < windows.len() {
-        touched = touched | (windows[i] != 7.0);
-        i += 1;
-    }
-    touched
+// The answer that is held comes to the place of the one before.
+fn bringing(e: Seen) -> Seen
+    ensures { λ r. ⌜ r ≡ meant.bringing e ⌝ }
+{
+    let a = e.held;
+    let mut f = e;
+    f.before = a;
+    f
 }
 
-fn with_mark(marks: u64, locked: bool) -> u64 {
-    let shifted = marks % 0x1_0000_0000 * 10;
-    if locked { shifted + 1 } else { shifted }
+fn remembering(e: Seen, figures: [f32; 12]) -> Seen
+    ensures { λ r. ⌜ r ≡ meant.remembering e figures ⌝ }
+{
+    let mut f = e;
+    f.figures = figures;
+    f
 }
 
-fn answered(s: Session, b: Blocked) -> Session {
-    let channel = b.channel;
-    let answer = b.answer;
-    let before = s.answer;
+fn with_seen(s: Session, seen: Seen) -> Session
+    ensures { λ r. ⌜ r ≡ meant.sessionOf s seen (s .channel) ⌝ }
+{
     let mut t = s;
-    t.channel = channel;
-    t.answer = answer;
-    t.before = before;
-    t.marks = with_mark(s.marks, answer.locked);
+    t.seen = seen;
     t
 }
 
-fn number_at(list: &[f32], i: usize) -> f32 {
-    if i < list.len() {
-        return list[i];
-    }
-    0.0
-}
-
-// A block with as much of these lists and of this memory as is asked for.
-fn lent(
-    s: Session,
-    l: Lists,
-    first: &mut [f32],
-    second: &mut [f32],
-    windows: &mut [f64],
-) -> Session {
-    let n = at_most(l.first, first.len());
-    let m = at_most(l.second, second.len());
-    let k = at_most(l.windows, windows.len());
-    let b = block(
-        s.channel,
-        l.flag,
-        &mut first[..n],
-        &mut second[..m],
-        &mut windows[..k],
-    );
-    answered(s, b)
-}
-
-fn fed(s: Session, l: Lists) -> Session {
-    let mut first = first_list(l);
-    let mut second = second_list(l);
-    let mut windows = [7.0; 8193];
-    let mut t = lent(s, l, &mut first, &mut second, &mut windows);
-    t.re = number_at(&first, 0);
-    t.im = number_at(&first, 1);
-    t.other = number_at(&second, 1);
-    t.touched = is_touched(&windows);
-    t
-}
-
-fn sample(flag: u64, re: f32, im: f32) -> Lists {
-    let mut l = no_lists(flag);
-    l.first = 2;
-    l.re = re;
-    l.im = im;
-    l
-}
-
-fn shaken() -> Lists {
-    let mut l = no_lists(1);
-    l.first = 8192;
-    l.jumps = true;
-    l
-}
-
-// (1, 0) and (0, 1).
-fn doubled(flag: u64) -> Lists {
-    let mut l = sample(flag, 1.0, 0.0);
-    l.second = 2;
-    l.other = 0.0;
-    l.fill = 1.0;
-    l
-}
-
-// The samples that have a letter of their own.
-fn lists_of(letter: u8) -> Lists {
-    match letter {
-        b's' => sample(0, 0.5, 0.25),
-        b'c' => sample(1, 1.0, 0.0),
-        b'q' => sample(1, 0.0, 1.0),
-        b'b' => sample(1, 0.8, 0.6),
-        b'n' => sample(1, 3.0, 4.0),
-        b'o' => sample(1, 0.0, 0.0),
-        b'j' => shaken(),
-        b'd' => doubled(1),
-        b'D' => doubled(0),
-        _ => no_lists((letter % 16) as u64),
-    }
-}
-
-fn unknown(s: Session) -> Session {
+fn unknown(s: Session) -> Session
+    ensures { λ r. ⌜ r ≡ meant.unknown s ⌝ }
+{
     let mut t = s;
     t.known = false;
     t
 }
 
-// Keeps the answer, brings the kept one to the place of the one before, or keeps the figures.
-fn kept(s: Session, letter: u8) -> Session {
+fn fed(s: Session, l: Lists) -> Session
+    ensures { λ r. ⌜ r ≡ meant.afterBlock s l ⌝ }
+{
+    let o = run_block(s.channel, l);
+    let seen = with_block(s.seen, o);
+    let channel = o.channel;
     let mut t = s;
-    match letter {
-        b'h' => {
-            let a = s.answer;
-            t.held = a;
-        }
-        b'H' => {
-            let a = s.held;
-            t.before = a;
-        }
-        _ => {
-            let f = figures(s.channel);
-            t.figures = f;
-        }
-    }
+    t.channel = channel;
+    t.seen = seen;
     t
 }
 
-fn called(s: Session, letter: u8) -> Session {
+// A letter that stands for a block, or for nothing.
+fn block_called(s: Session, letter: u8) -> Session
+    ensures { λ r. ⌜ r ≡ standsFor letter (meant.blocksAfter s) (meant.unknown s) ⌝ }
+{
+    if is_one_of(letter, b"p01234scqbnojdD") {
+        let l = lists_of(s.plan.lists, letter);
+        return fed(s, l);
+    }
+    unknown(s)
+}
+
+fn called(s: Session, letter: u8) -> Session
+    ensures { λ r. ⌜ r ≡ meant.afterLetter s letter ⌝ }
+{
     match letter {
-        b'O' => opened(s),
-        b'a' => assigned(s),
+        b'O' => returned(s, channel_open::open(s.plan.settings)),
+        b'a' => returned(s, assign(s.channel, s.plan.carriers)),
         b'r' => released(s),
-        b'p' => fed(s, s.lists),
-        b'h' | b'H' | b'y' => kept(s, letter),
-        b'0'..=b'4' | b's' | b'c' | b'q' | b'b' | b'n' | b'o' | b'j' | b'd' | b'D' => {
-            fed(s, lists_of(letter))
-        }
-        _ => unknown(s),
+        b'h' => with_seen(s, holding(s.seen)),
+        b'H' => with_seen(s, bringing(s.seen)),
+        b'y' => with_seen(s, remembering(s.seen, figures(s.channel))),
+        _ => block_called(s, letter),
     }
 }
 
 // One call after the other.
-pub fn played(s: Session, script: &[u8]) -> Session {
+pub fn played(s: Session, script: &[u8]) -> Session
+    ensures { λ r. ⌜ r ≡ meant.afterScript s (now (script .entry)) ⌝ }
+{
     let mut t = s;
     let mut i = 0;
     while i < script.len() {

@@ -1,32 +1,50 @@
 // The window memory: all zeros, filled by the rule of reference/README.md, or one number set.
+ghost use mathlib.Core.Path.{_≡_};
+ghost use Rattle.channel_vectors.specs.Code.Memory.{cleared, sixtyFourths, filled, poked};
+ghost use Rattle.channel_vectors.specs.Code.Lines.{memoryLine};
 use ieee754::conversion::u64_to_f64;
-use vectors::numbers::next_f64;
-use vectors::numbers::next_whole;
+use vectors::line::float64;
+use vectors::line::number;
 
-pub fn clear(windows: &mut [f64]) {
+fn clear(windows: &mut [f64])
+    ensures { λ _. ⌜ now (windows .exit) ≡ cleared (now (windows .entry)) ⌝ }
+{
     for i in 0..windows.len() {
         windows[i] = 0.0;
     }
 }
 
-// What place i holds: (7 i + start) mod 64, in 64ths.
-fn filled(start: u64, i: usize) -> f64 {
+// Both numbers are cut first, so that the product and the sum fit.
+fn sixty_fourths(start: u64, i: usize) -> f64
+    ensures { λ r. ⌜ r ≡ sixtyFourths start i ⌝ }
+{
     let k = i as u64;
     u64_to_f64((k % 64 * 7 + start % 64) % 64) / 64.0
 }
 
-pub fn fill(windows: &mut [f64]) {
-    let start = next_whole();
+fn fill(start: u64, windows: &mut [f64])
+    ensures { λ _. ⌜ now (windows .exit) ≡ filled start (now (windows .entry)) ⌝ }
+{
     for i in 0..windows.len() {
-        windows[i] = filled(start, i);
+        windows[i] = sixty_fourths(start, i);
     }
 }
 
-pub fn poke(windows: &mut [f64]) {
-    let place = next_whole();
-    let value = next_f64();
+fn poke(place: u64, value: f64, windows: &mut [f64])
+    ensures { λ _. ⌜ now (windows .exit) ≡ poked place value (now (windows .entry)) ⌝ }
+{
     let m = windows.len() as u64;
     if place < m {
         windows[place as usize] = value;
+    }
+}
+
+pub fn set_memory(kind: u64, words: &[u64], windows: &mut [f64])
+    ensures { λ _. ⌜ now (windows .exit) ≡ memoryLine kind (now (words .entry)) (now (windows .entry)) ⌝ }
+{
+    match kind {
+        0 => clear(windows),
+        1 => fill(number(words, 1), windows),
+        _ => poke(number(words, 1), float64(words, 2), windows),
     }
 }

@@ -1,5 +1,7 @@
 // Runs the vectors that stand in this crate's stdin and compares. A line is an operation's letter, three arguments and the result, each as
 // 16 hexadecimal digits; make_vectors says where they come from. A vector that differs is printed.
+ghost use mathlib.Core.Path.{_≡_};
+ghost use Rattle.ieee754_vectors.specs.Code.Lines.{single, ofOne, ofMore, lineAgrees};
 use ieee754::pattern::f32_from_bits;
 use ieee754::pattern::f32_to_bits;
 use ieee754::pattern::f64_from_bits;
@@ -7,11 +9,16 @@ use ieee754::pattern::f64_to_bits;
 use libc::STDOUT_FILENO;
 
 // An f32 stands in the lower half.
-fn f32_at(b: u64) -> f32 {
+fn f32_at(b: u64) -> f32
+    ensures { λ r. ⌜ r ≡ single b ⌝ }
+{
     f32_from_bits((b % 0x1_0000_0000) as u32)
 }
 
-fn of_one(op: u8, a: u64) -> u64 {
+// The result of an operation with one argument.
+fn of_one(op: u8, a: u64) -> u64
+    ensures { λ r. ⌜ r ≡ ofOne op a ⌝ }
+{
     let x = f64_from_bits(a);
     match op {
         b's' => f64_to_bits(ieee754_roots::square_root::sqrt(x)),
@@ -24,7 +31,10 @@ fn of_one(op: u8, a: u64) -> u64 {
     }
 }
 
-fn of_more(op: u8, a: u64, b: u64, c: u64) -> u64 {
+// The result of any.
+fn of_more(op: u8, a: u64, b: u64, c: u64) -> u64
+    ensures { λ r. ⌜ r ≡ ofMore op a b c ⌝ }
+{
     let x = f64_from_bits(a);
     let y = f64_from_bits(b);
     match op {
@@ -37,7 +47,9 @@ fn of_more(op: u8, a: u64, b: u64, c: u64) -> u64 {
     }
 }
 
-fn holds(line: &[u8; 70]) -> bool {
+fn agrees(line: &[u8; 70]) -> bool
+    ensures { λ r. ⌜ r ≡ lineAgrees (now (line .entry)) ⌝ }
+{
     let a = vectors::word_at(line, 2);
     let b = vectors::word_at(line, 19);
     let c = vectors::word_at(line, 36);
@@ -52,7 +64,7 @@ fn main() {
         if io::read_full(0, &mut line) < 70 {
             break;
         }
-        if !holds(&line) {
+        if !agrees(&line) {
             io::write_all(STDOUT_FILENO, &line);
             differ += 1;
         }

@@ -1,41 +1,58 @@
-// Replays answers of the Rust's raw scan: each vector is its kind, a count, so many f32, and the flag. reference/vectors makes them. The number
-// of each vector that differs is printed.
-use libc::STDOUT_FILENO;
+// Replays answers of the Rust's raw scan: each line is its kind, a count, so many f32, and the flag. reference/vectors makes them. The number
+// of each line that differs is printed.
+ghost use mathlib.Core.Path.{_≡_};
+ghost use Prim.Native.Nat.{_≤_};
+ghost use Rattle.survey_vectors.specs.Code.Lines.{flagOf, samplesAgree, lineAgrees};
+use vectors::line::ends;
+use vectors::line::number;
+use vectors::line::samples;
+use vectors::line::stands;
+use vectors::tally::Tally;
+use vectors::tally::counted;
 
-// Whether the next vector holds.
-fn holds() -> bool {
-    let mut list = [0.0f32; 4096];
-    let n = vectors::next_word();
-    let k = vectors::next_samples(n.value, &mut list);
-    let want = vectors::next_word();
-    survey::survey(&list[..k]) == want.value
+// The port's flag of the line's n samples.
+fn flag_of(words: &[u64], n: usize) -> u64
+    requires { ⌜ n ≤ 8192 ⌝ }
+    ensures { λ r. ⌜ r ≡ flagOf n (now (words .entry)) ⌝ }
+{
+    let mut list = [0.0f32; 8192];
+    samples(words, 2, &mut list[..n]);
+    survey::survey(&list[..n])
 }
 
-fn say_differs(n: u64) {
-    io::print_decimal(STDOUT_FILENO, n);
-    io::write_all(STDOUT_FILENO, b" differs\n");
+// Whether the flag stands behind the samples, at the line's end.
+fn samples_agree(words: &[u64], n: u64) -> bool
+    ensures { λ r. ⌜ r ≡ samplesAgree n (now (words .entry)) ⌝ }
+{
+    if n > 8192 {
+        return false;
+    }
+    let k = n as usize;
+    let flag = [flag_of(words, k)];
+    stands(words, 2 + k, &flag) & ends(words, 3 + k)
 }
 
-fn say_result(n: u64, differ: u64) {
-    io::print_decimal(STDOUT_FILENO, n);
-    io::write_all(STDOUT_FILENO, b" vectors, ");
-    io::print_decimal(STDOUT_FILENO, differ);
-    io::write_all(STDOUT_FILENO, b" differ\n");
+fn agrees(words: &[u64]) -> bool
+    ensures { λ r. ⌜ r ≡ lineAgrees (now (words .entry)) ⌝ }
+{
+    if number(words, 0) != 7 {
+        return false;
+    }
+    samples_agree(words, number(words, 1))
 }
 
 fn main() {
-    let mut differ: u64 = 0;
-    let mut n: u64 = 0;
-    while n < 1000000 {
-        let kind = vectors::next_word();
-        if !kind.there {
+    let mut words = [0u64; 8300];
+    let mut t = Tally {
+        lines: 0,
+        differ: 0,
+    };
+    while t.lines < 1000000 {
+        let n = vectors::next_line(&mut words);
+        if n == 0 {
             break;
         }
-        n += 1;
-        if !holds() {
-            say_differs(n);
-            differ += 1;
-        }
+        t = counted(t, agrees(&words[..n]));
     }
-    say_result(n, differ);
+    vectors::tally::say(t);
 }

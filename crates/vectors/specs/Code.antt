@@ -1,2 +1,5 @@
--- What only private functions and proofs cite.
+-- What only test programs and private functions cite.
 pub mod Words
+pub mod Lines
+pub mod Standing
+pub mod Counts

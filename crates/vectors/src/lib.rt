@@ -1,12 +1,13 @@
-// Reading outside vectors, as words of 16 hexadecimal digits, for the programs that run them and compare.
-pub mod numbers;
+// Outside vectors: a line of standard input is read into lent numbers, in one place (`next_line`), and all that is asked of a line is a function of
+// these numbers (`line`). A word for many numbers is `mix`; how many lines differ is counted and said by `tally`.
+pub mod line;
+pub mod mix;
+pub mod tally;
 
 ghost use mathlib.Core.Path.{_≡_};
-ghost use mathlib.Core.Bool.{false};
 ghost use Prim.Native.Nat.{_+_, _<_, _≤_};
 ghost use lib.ListN.{length};
 ghost use Rattle.vectors.specs.Code.Words.{digitOf, withDigit, wordAt};
-use ieee754::pattern::f32_from_bits;
 
 // The value of a hexadecimal digit; any other byte counts as 0.
 pub fn digit(b: u8) -> u64
@@ -27,8 +28,8 @@ pub fn digit(b: u8) -> u64
     0
 }
 
-// One digit more.
-fn with_digit(v: u64, b: u8) -> u64
+// One digit more; of more than 16 the last count.
+pub fn with_digit(v: u64, b: u8) -> u64
     ensures { λ r. ⌜ r ≡ withDigit v b ⌝ }
 {
     v % 0x1000_0000_0000_0000 * 16 + digit(b)
@@ -48,47 +49,51 @@ pub fn word_at(line: &[u8], a: usize) -> u64
     v
 }
 
-// What standard input has next: 16 digits and the byte that parts them from what follows.
-pub struct Word {
-    pub there: bool,
-    pub value: u64,
+// What standard input has next: 16 digits and the byte that parts them from what follows, a newline at the end of a line.
+struct Item {
+    there: bool,
+    value: u64,
+    last: bool,
 }
 
-// The next number of standard input, or 0 and `there` false where it ends. (No contract can say what a read brings.)
-pub fn next_word() -> Word
-    ensures { λ r. ⌜ (r .there ≡ false → r .value ≡ 0) ⌝ }
-{
+// No contract can say what a read brings.
+fn next_item() -> Item {
     let mut item = [0u8; 17];
     if io::read_full(0, &mut item) < 17 {
-        return Word {
+        return Item {
             there: false,
             value: 0,
+            last: true,
         };
     }
-    Word {
+    Item {
         there: true,
         value: word_at(&item, 0),
+        last: item[16] == 10,
     }
 }
 
-// The smaller of the two.
-fn least(n: u64, most: usize) -> usize
-    ensures { λ r. ⌜ (r ≤ n) × (r ≤ most) ⌝ }
+// The next line of standard input: its numbers stand at the start of the lent list, as far as that goes, and the answer is how many, 0 at the end
+// of the input. Numbers that find no place are passed over, so that the next line begins where it should. (The bound is there so that the loop is
+// seen to end: no line is as long.)
+pub fn next_line(words: &mut [u64]) -> usize
+    ensures { λ r. ⌜ r ≤ length (now (words .entry)) ⌝ }
 {
-    let m = most as u64;
-    if n < m { n as usize } else { most }
-}
-
-// The next n numbers of standard input, each an f32 by its pattern, into the start of a lent list, as far as it goes. It answers how many.
-pub fn next_samples(n: u64, samples: &mut [f32]) -> usize
-    ensures { λ r. ⌜ (r ≤ n) × (r ≤ length (now (samples .entry))) ⌝ }
-{
-    let most = least(n, samples.len());
-    let mut i = 0;
-    while i < most {
-        let w = next_word();
-        samples[i] = f32_from_bits((w.value % 0x1_0000_0000) as u32);
-        i += 1;
+    let mut n = 0;
+    let mut read: u64 = 0;
+    while read < 0x1_0000_0000_0000 {
+        let item = next_item();
+        if !item.there {
+            break;
+        }
+        if n < words.len() {
+            words[n] = item.value;
+            n += 1;
+        }
+        if item.last {
+            break;
+        }
+        read += 1;
     }
-    most
+    n
 }

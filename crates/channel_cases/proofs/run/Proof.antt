@@ -1,6 +1,5 @@
 -- `channel_cases::run` is safe and ends: a line ends within the text, and the next one starts after it. Assumes nothing.
-use mathlib.Core.Path.{_≡_}
-use Prim.Native.Nat.{_+_, _-_, _*_, _≤_, _<_}
+use Prim.Native.Nat.{_-_, _≤_}
 use borrow.Author.Needs.{needs}
 use lib.ListN.{length}
 use Rattle.channel_cases.proofs.run.Statement.{statement}

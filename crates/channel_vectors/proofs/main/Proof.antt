@@ -1,18 +1,23 @@
 -- `channel_vectors::main` is safe and ends: the lent arrays keep their lengths, and a line at a time is left to read. Assumes nothing.
-use mathlib.Core.Path.{_≡_}
+use mathlib.Core.Path.{_≡_, sym}
+use native.Mathlib.Omega.{arith}
 use borrow.Author.Needs.{needs}
 use lib.ListN.{length}
+use lib.Seq.{length-take-le}
 use Rattle.channel_vectors.proofs.main.Statement.{statement}
 use Rattle.channel_vectors.proofs.main.Tie as tie
 
 abbrev Inv-loop : tie.InvT-loop
-Inv-loop first₀ second₀ windows₀ p₀ left₀ first second windows p left = (length first ≡ 8200) × (length second ≡ 8200) × (length windows ≡ 8193)
+Inv-loop words₀ windows₀ r₀ t₀ left₀ words windows r t left = (length words ≡ 33300) × (length windows ≡ 8193)
 
 abbrev μ-loop : tie.MeasureT-loop
-μ-loop first₀ second₀ windows₀ p₀ left₀ first second windows p left = left
+μ-loop words₀ windows₀ r₀ t₀ left₀ words windows r t left = left
 
-no-channel-requires : tie.Need-no-channel-requires Inv-loop μ-loop
-no-channel-requires c κs = search needs
+slice-aggregate-replay-open : tie.Need-slice-aggregate-replay-open Inv-loop μ-loop
+slice-aggregate-replay-open c = search needs
+
+replay-open-requires : tie.Need-replay-open-requires Inv-loop μ-loop
+replay-open-requires c κs = search needs
 
 loop-holds : tie.Need-loop-holds Inv-loop μ-loop
 loop-holds c = search needs
@@ -20,17 +25,30 @@ loop-holds c = search needs
 sub-left : tie.Need-sub-left Inv-loop μ-loop
 sub-left c = search needs
 
-slice-aggregate-replay-line : tie.Need-slice-aggregate-replay-line Inv-loop μ-loop
-slice-aggregate-replay-line c = search needs
+slice-aggregate-next-line : tie.Need-slice-aggregate-next-line Inv-loop μ-loop
+slice-aggregate-next-line c = search needs
 
-slice-aggregate-replay-line-2 : tie.Need-slice-aggregate-replay-line-2 Inv-loop μ-loop
-slice-aggregate-replay-line-2 c = search needs
+next-line-requires : tie.Need-next-line-requires Inv-loop μ-loop
+next-line-requires c κs = search needs
 
-slice-aggregate-replay-line-3 : tie.Need-slice-aggregate-replay-line-3 Inv-loop μ-loop
-slice-aggregate-replay-line-3 c = search needs
+array-share-prefix-words : tie.Need-array-share-prefix-words Inv-loop μ-loop
+array-share-prefix-words c = search needs
 
-replay-line-requires : tie.Need-replay-line-requires Inv-loop μ-loop
-replay-line-requires c κs = search needs
+slice-aggregate-replay : tie.Need-slice-aggregate-replay Inv-loop μ-loop
+slice-aggregate-replay c =
+    let n = c .before .before .before .next-line in
+    let h = n .ensures in
+    let k = n .kept .0 in
+    sym (length-take-le (n .result) (n .last .0) (omega (arith, h, k)))
+
+slice-aggregate-replay-2 : tie.Need-slice-aggregate-replay-2 Inv-loop μ-loop
+slice-aggregate-replay-2 c = search needs
+
+replay-requires : tie.Need-replay-requires Inv-loop μ-loop
+replay-requires c κs = search needs
+
+counted-requires : tie.Need-counted-requires Inv-loop μ-loop
+counted-requires c κs = search needs
 
 loop-less : tie.Need-loop-less Inv-loop μ-loop
 loop-less c = search needs
@@ -38,8 +56,8 @@ loop-less c = search needs
 loop-again : tie.Need-loop-again Inv-loop μ-loop
 loop-again c = search needs
 
-say-result-requires : tie.Need-say-result-requires Inv-loop μ-loop
-say-result-requires c κs = search needs
+say-requires : tie.Need-say-requires Inv-loop μ-loop
+say-requires c κs = search needs
 
 returns : tie.Need-returns Inv-loop μ-loop
 returns c = search needs
@@ -50,14 +68,18 @@ main-spec =
     (tie.spec
     Inv-loop
     μ-loop
-    no-channel-requires
+    slice-aggregate-replay-open
+    replay-open-requires
     loop-holds
     sub-left
-    slice-aggregate-replay-line
-    slice-aggregate-replay-line-2
-    slice-aggregate-replay-line-3
-    replay-line-requires
+    slice-aggregate-next-line
+    next-line-requires
+    array-share-prefix-words
+    slice-aggregate-replay
+    slice-aggregate-replay-2
+    replay-requires
+    counted-requires
     loop-less
     loop-again
-    say-result-requires
+    say-requires
     returns)

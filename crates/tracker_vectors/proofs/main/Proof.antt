@@ -1,48 +1,55 @@
--- `tracker_vectors::main` is safe and ends: no more vectors than the limit, and no more differ than were read. Assumes nothing.
+-- `tracker_vectors::main` is safe and ends: at most a hundred million lines. Assumes nothing.
+use mathlib.Core.Path.{sym, _≡_}
 use Prim.Native.Nat.{_-_, _≤_}
 use native.Mathlib.Omega.{arith}
 use borrow.Author.Needs.{needs}
+use lib.Seq.{length-take-le}
+use lib.ListN.{length}
+use Rattle.vectors.proofs.CountLaws.{lines-counted}
 use Rattle.tracker_vectors.proofs.main.Statement.{statement}
 use Rattle.tracker_vectors.proofs.main.Tie as tie
 
 abbrev Inv-loop : tie.InvT-loop
-Inv-loop differ₀ n₀ differ n = (differ ≤ n) × (n ≤ 100000000)
+Inv-loop words₀ t₀ words t = (t .lines ≤ 100000000) × (length words ≡ 8300)
 
 abbrev μ-loop : tie.MeasureT-loop
-μ-loop differ₀ n₀ differ n = 100000000 - n
+μ-loop words₀ t₀ words t = 100000000 - t .lines
 
 loop-holds : tie.Need-loop-holds Inv-loop μ-loop
 loop-holds c = search needs
 
-next-word-requires : tie.Need-next-word-requires Inv-loop μ-loop
-next-word-requires c κs = search needs
+slice-aggregate-next-line : tie.Need-slice-aggregate-next-line Inv-loop μ-loop
+slice-aggregate-next-line c = search needs
 
-add-n : tie.Need-add-n Inv-loop μ-loop
-add-n c = search needs
+next-line-requires : tie.Need-next-line-requires Inv-loop μ-loop
+next-line-requires c κs = search needs
 
-holds-requires : tie.Need-holds-requires Inv-loop μ-loop
-holds-requires c κs = search needs
+array-share-prefix-words : tie.Need-array-share-prefix-words Inv-loop μ-loop
+array-share-prefix-words c = search needs
 
-say-differs-requires : tie.Need-say-differs-requires Inv-loop μ-loop
-say-differs-requires c κs = search needs
+slice-aggregate-agrees : tie.Need-slice-aggregate-agrees Inv-loop μ-loop
+slice-aggregate-agrees c =
+    let n = c .before .before .before .next-line in
+    sym (length-take-le (n .result) _ (omega (arith, n .kept, n .ensures)))
 
-add-differ : tie.Need-add-differ Inv-loop μ-loop
-add-differ c = search needs
+agrees-requires : tie.Need-agrees-requires Inv-loop μ-loop
+agrees-requires c κs = search needs
+
+counted-requires : tie.Need-counted-requires Inv-loop μ-loop
+counted-requires c κs = search needs
 
 loop-less : tie.Need-loop-less Inv-loop μ-loop
-loop-less c = search needs
+loop-less c =
+    let t = c .before .before .before .before .before .before .before .before .before .loop .t in
+    omega (arith, lines-counted t (c .counted .result) (c .before .agrees .result) (c .counted .ensures) (omega arith))
 
 loop-again : tie.Need-loop-again Inv-loop μ-loop
-loop-again c = search needs
+loop-again c =
+    let t = c .before .before .before .before .before .before .before .before .before .loop .t in
+    (omega (arith, lines-counted t (c .counted .result) (c .before .agrees .result) (c .counted .ensures) (omega arith)), search needs)
 
-loop-less-2 : tie.Need-loop-less-2 Inv-loop μ-loop
-loop-less-2 c = search needs
-
-loop-again-2 : tie.Need-loop-again-2 Inv-loop μ-loop
-loop-again-2 c = search needs
-
-say-result-requires : tie.Need-say-result-requires Inv-loop μ-loop
-say-result-requires c κs = search needs
+say-requires : tie.Need-say-requires Inv-loop μ-loop
+say-requires c κs = search needs
 
 returns : tie.Need-returns Inv-loop μ-loop
 returns c = search needs
@@ -54,14 +61,13 @@ main-spec =
     Inv-loop
     μ-loop
     loop-holds
-    next-word-requires
-    add-n
-    holds-requires
-    say-differs-requires
-    add-differ
+    slice-aggregate-next-line
+    next-line-requires
+    array-share-prefix-words
+    slice-aggregate-agrees
+    agrees-requires
+    counted-requires
     loop-less
     loop-again
-    loop-less-2
-    loop-again-2
-    say-result-requires
+    say-requires
     returns)

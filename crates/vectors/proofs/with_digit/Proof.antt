@@ -1,5 +1,5 @@
 -- `vectors::with_digit` meets its contract. Assumes nothing.
-use mathlib.Core.Path.{_≡_, ap}
+use mathlib.Core.Path.{ap}
 use Prim.Native.Nat.{ℕ, _+_, _*_, _%_, _^_}
 use borrow.Author.Needs.{needs}
 use Rattle.vectors.specs.Code.Words.{withDigit}

@@ -1,9 +1,9 @@
--- Outside vectors are lines of fixed length that hold numbers as 16 lower-case hexadecimal digits. Definitions only.
+-- Outside vectors are lines of numbers, each as 16 lower-case hexadecimal digits; and a word that stands for many numbers. Definitions only.
 use mathlib.Core.List.{List}
 use mathlib.Core.Bool.{cond}
 use Prim.Native.Nat.{ℕ, _+_, _-_, _*_, _%_, _^_}
 use lib.Dec.{leb, ltb}
-use lib.Ieee.{Float, binary64, toBits}
+use lib.Ieee.{Float, binary32, binary64, toBits}
 use Rattle.sequences.specs.Folds.{fold}
 use Rattle.sequences.specs.Stretches.{stretch}
 
@@ -22,5 +22,12 @@ unfolding withDigit
 wordAt a line = fold withDigit 0 (stretch a 16 line)
 
 -- one number more in a word that stands for many, modulo the prime 2 ^ 59 - 55
+unfoldable pub mixedNumber : ℕ → ℕ → ℕ
+mixedNumber sum n = sum % (2 ^ 59 - 55) * 31 + n % (2 ^ 59 - 55)
+
+-- the same for an f64 and for an f32, by its pattern
 unfoldable pub mixed : ℕ → Float → ℕ
-mixed sum x = sum % (2 ^ 59 - 55) * 31 + toBits binary64 x % (2 ^ 59 - 55)
+mixed sum x = mixedNumber sum (toBits binary64 x)
+
+unfoldable pub mixed32 : ℕ → Float → ℕ
+mixed32 sum x = mixedNumber sum (toBits binary32 x)

@@ -1,19 +1,23 @@
--- `channel_cases::number::decimal_of` is safe and ends. Assumes nothing.
-use mathlib.Core.Path.{_≡_}
-use Prim.Native.Nat.{_+_, _-_, _*_, _≤_, _<_}
+-- `channel_cases::number::decimal_of` meets its contract: the bytes that are left, from what is read so far, come to all of them. Assumes nothing.
+use mathlib.Core.Path.{_≡_, refl, ap, sym, _∙_}
+use Prim.Native.Nat.{_-_, _≤_}
+use native.Mathlib.Omega.{arith}
 use borrow.Author.Needs.{needs}
-use lib.ListN.{length}
+use lib.ListN.{length, drop}
+use Rattle.sequences.specs.Folds.{fold}
+use Rattle.sequences.proofs.FoldLaws.{fold-next, fold-end}
+use Rattle.channel_cases.specs.Code.Numbers.{noDigits, withByte, quotient, decimalOf}
 use Rattle.channel_cases.proofs.number.decimal_of.Statement.{statement}
 use Rattle.channel_cases.proofs.number.decimal_of.Tie as tie
 
 abbrev Inv-loop : tie.InvT-loop
-Inv-loop s d₀ i₀ d i = i ≤ length s
+Inv-loop s d₀ i₀ d i = (fold withByte d (drop i s) ≡ fold withByte noDigits s) × (i ≤ length s)
 
 abbrev μ-loop : tie.MeasureT-loop
 μ-loop s d₀ i₀ d i = length s - i
 
 loop-holds : tie.Need-loop-holds Inv-loop μ-loop
-loop-holds c = search needs
+loop-holds c = (refl, omega arith)
 
 shared-slice-read-with-byte : tie.Need-shared-slice-read-with-byte Inv-loop μ-loop
 shared-slice-read-with-byte c = search needs
@@ -28,13 +32,18 @@ loop-less : tie.Need-loop-less Inv-loop μ-loop
 loop-less c = search needs
 
 loop-again : tie.Need-loop-again Inv-loop μ-loop
-loop-again c = search needs
+loop-again c =
+    let l = c .before .before .before in
+    (fold-next (l .before .before .args .s .now) (l .loop .i) withByte _ (omega arith) (c .with-byte .ensures) ∙ l .loop .inv .0, omega arith)
+
+quotient-requires : tie.Need-quotient-requires Inv-loop μ-loop
+quotient-requires c κs = search needs
 
 returns : tie.Need-returns Inv-loop μ-loop
-returns c = search needs
-
-returns-2 : tie.Need-returns-2 Inv-loop μ-loop
-returns-2 c = search needs
+unfolding decimalOf
+returns c =
+    let l = c .before .before in
+    c .quotient .ensures ∙ ap quotient (sym (fold-end (l .before .before .args .s .now) (l .loop .i) withByte (l .loop .d) (omega arith)) ∙ l .loop .inv .0)
 
 pub decimal-of-spec : {M : Type 1} → statement M
 decimal-of-spec =
@@ -48,5 +57,5 @@ decimal-of-spec =
     add-i
     loop-less
     loop-again
-    returns
-    returns-2)
+    quotient-requires
+    returns)

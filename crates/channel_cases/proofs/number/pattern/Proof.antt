@@ -1,31 +1,31 @@
--- `channel_cases::number::pattern` is safe and ends. Assumes nothing.
-use mathlib.Core.Path.{_≡_}
-use Prim.Native.Nat.{_+_, _-_, _*_, _≤_, _<_}
+-- `channel_cases::number::pattern` meets its contract: the digits that are left, from those so far, come to all of them. Assumes nothing.
+use mathlib.Core.Path.{_≡_, refl, ap, sym, _∙_}
+use Prim.Native.Nat.{ℕ, _-_}
+use native.Mathlib.Omega.{arith}
 use borrow.Author.Needs.{needs}
-use lib.ListN.{length}
+use lib.Ieee.{binary64, ofBits}
+use lib.ListN.{length, drop}
+use Rattle.sequences.specs.Folds.{fold}
+use Rattle.sequences.proofs.FoldLaws.{fold-next, fold-end}
+use Rattle.vectors.specs.Code.Words.{withDigit}
+use Rattle.channel_cases.specs.Code.Numbers.{patternOf}
 use Rattle.channel_cases.proofs.number.pattern.Statement.{statement}
 use Rattle.channel_cases.proofs.number.pattern.Tie as tie
 
 abbrev Inv-loop : tie.InvT-loop
-Inv-loop s v₀ i₀ v i = i ≤ 1 + length s
+Inv-loop s v₀ i₀ v i = fold withDigit v (drop i s) ≡ fold withDigit 0 (drop 1 s)
 
 abbrev μ-loop : tie.MeasureT-loop
-μ-loop s v₀ i₀ v i = 1 + length s - i
+μ-loop s v₀ i₀ v i = length s - i
 
 loop-holds : tie.Need-loop-holds Inv-loop μ-loop
-loop-holds c = search needs
+loop-holds c = refl
 
-mul-v : tie.Need-mul-v Inv-loop μ-loop
-mul-v c = search needs
+shared-slice-read-with-digit : tie.Need-shared-slice-read-with-digit Inv-loop μ-loop
+shared-slice-read-with-digit c = search needs
 
-shared-slice-read-digit : tie.Need-shared-slice-read-digit Inv-loop μ-loop
-shared-slice-read-digit c = search needs
-
-digit-requires : tie.Need-digit-requires Inv-loop μ-loop
-digit-requires c κs = search needs
-
-add-v : tie.Need-add-v Inv-loop μ-loop
-add-v c = search needs
+with-digit-requires : tie.Need-with-digit-requires Inv-loop μ-loop
+with-digit-requires c κs = search needs
 
 add-i : tie.Need-add-i Inv-loop μ-loop
 add-i c = search needs
@@ -34,13 +34,19 @@ loop-less : tie.Need-loop-less Inv-loop μ-loop
 loop-less c = search needs
 
 loop-again : tie.Need-loop-again Inv-loop μ-loop
-loop-again c = search needs
+loop-again c =
+    let l = c .before .before .before in
+    fold-next (l .before .before .args .s .now) (l .loop .i) withDigit _ (omega arith) (c .with-digit .ensures) ∙ l .loop .inv
 
 f64-from-bits-requires : tie.Need-f64-from-bits-requires Inv-loop μ-loop
 f64-from-bits-requires c κs = search needs
 
 returns : tie.Need-returns Inv-loop μ-loop
-returns c = search needs
+unfolding patternOf
+returns c =
+    let l = c .before .before in
+    c .f64-from-bits .ensures
+    ∙ ap (λ (v : ℕ). ofBits binary64 v) (sym (fold-end (l .before .before .args .s .now) (l .loop .i) withDigit (l .loop .v) (omega arith)) ∙ l .loop .inv)
 
 pub pattern-spec : {M : Type 1} → statement M
 pattern-spec =
@@ -49,10 +55,8 @@ pattern-spec =
     Inv-loop
     μ-loop
     loop-holds
-    mul-v
-    shared-slice-read-digit
-    digit-requires
-    add-v
+    shared-slice-read-with-digit
+    with-digit-requires
     add-i
     loop-less
     loop-again

@@ -1,48 +1,47 @@
--- `channel_cases::words::end_of` answers a place of the text from `from` on. Assumes nothing.
-use mathlib.Core.Path.{_≡_}
-use Prim.Native.Nat.{_+_, _-_, _*_, _≤_, _<_}
+-- `channel_cases::words::end_of` meets its contract: the place in what is left, and where that starts. Assumes nothing.
+use Prim.Native.Nat.{_-_}
+use native.Mathlib.Omega.{arith}
+use lib.ListN.{drop, length-drop}
+use Rattle.pass_reader.proofs.ByteLaws.{found-from, place-within}
 use borrow.Author.Needs.{needs}
-use lib.ListN.{length}
 use Rattle.channel_cases.proofs.words.end_of.Statement.{statement}
 use Rattle.channel_cases.proofs.words.end_of.Tie as tie
 
-abbrev Inv-loop : tie.InvT-loop
-Inv-loop s from stop i₀ i = (from ≤ i) × (i ≤ length s)
+sub-place-of : tie.Need-sub-place-of
+sub-place-of c = search needs
 
-abbrev μ-loop : tie.MeasureT-loop
-μ-loop s from stop i₀ i = length s - i
+part-place-of-start : tie.Need-part-place-of-start
+part-place-of-start c = search needs
 
-loop-holds : tie.Need-loop-holds Inv-loop μ-loop
-loop-holds c = search needs
+part-place-of-end : tie.Need-part-place-of-end
+part-place-of-end c = search needs
 
-shared-slice-read-if1 : tie.Need-shared-slice-read-if1 Inv-loop μ-loop
-shared-slice-read-if1 c = search needs
+place-of-requires : tie.Need-place-of-requires
+place-of-requires c κs = search needs
 
-returns : tie.Need-returns Inv-loop μ-loop
-returns c = search needs
+add-result : tie.Need-add-result
+add-result c =
+    let a = c .before .before .before .args in
+    let e = found-from (a .stop) (a .s .now) (a .from) (c .place-of .result) (c .place-of .ensures) in
+    let p = place-within (a .stop) (drop (a .from) (a .s .now)) in
+    let l = length-drop (a .from) (a .s .now) in
+    omega (arith, e, p, l)
 
-add-i : tie.Need-add-i Inv-loop μ-loop
-add-i c = search needs
-
-loop-less : tie.Need-loop-less Inv-loop μ-loop
-loop-less c = search needs
-
-loop-again : tie.Need-loop-again Inv-loop μ-loop
-loop-again c = search needs
-
-returns-2 : tie.Need-returns-2 Inv-loop μ-loop
-returns-2 c = search needs
+returns : tie.Need-returns
+returns c =
+    let a = c .before .before .before .args in
+    let e = found-from (a .stop) (a .s .now) (a .from) (c .place-of .result) (c .place-of .ensures) in
+    let p = place-within (a .stop) (drop (a .from) (a .s .now)) in
+    let l = length-drop (a .from) (a .s .now) in
+    (e, (omega (arith, e, p, l), omega (arith, e, p, l)))
 
 pub end-of-spec : {M : Type 1} → statement M
 end-of-spec =
     tie.close
     (tie.spec
-    Inv-loop
-    μ-loop
-    loop-holds
-    shared-slice-read-if1
-    returns
-    add-i
-    loop-less
-    loop-again
-    returns-2)
+    sub-place-of
+    part-place-of-start
+    part-place-of-end
+    place-of-requires
+    add-result
+    returns)

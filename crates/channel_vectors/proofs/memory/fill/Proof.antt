@@ -1,25 +1,29 @@
--- `channel_vectors::memory::fill` is safe and ends. Assumes nothing.
-use mathlib.Core.Path.{_≡_}
-use Prim.Native.Nat.{_-_, _≤_}
+-- `fill` meets its contract. Assumes nothing.
+use Rattle.vectors.specs.Code.Lines.{fromPlace}
+use Rattle.vectors.proofs.LineLaws.{fill-next, fill-end}
+use Rattle.channel_vectors.specs.Code.Memory.{sixtyFourths, filled}
 use borrow.Author.Needs.{needs}
-use lib.ListN.{length}
+use mathlib.Core.Path.{_≡_, refl, sym, ap, _∙_}
+use Prim.Native.Nat.{_-_, _≤_}
+use native.Mathlib.Nat.{zero-add}
+use native.Mathlib.Omega.{arith}
+use lib.ListN.{length, take, length-set}
+use Rattle.ieee754.specs.Binary64.{zero}
 use Rattle.channel_vectors.proofs.memory.fill.Statement.{statement}
 use Rattle.channel_vectors.proofs.memory.fill.Tie as tie
 
 abbrev Inv-loop : tie.InvT-loop
-Inv-loop windows₀ start i₀ i-end windows i = (i ≤ length windows₀) × (length windows ≡ length windows₀)
+Inv-loop start windows₀ i₀ i-end windows i = (take i windows ≡ fromPlace (sixtyFourths start) 0 i) × (i ≤ length windows₀) × (length windows ≡ length windows₀)
 
 abbrev μ-loop : tie.MeasureT-loop
-μ-loop windows₀ start i₀ i-end windows i = length windows₀ - i
-
-next-whole-requires : tie.Need-next-whole-requires Inv-loop μ-loop
-next-whole-requires c κs = search needs
+μ-loop start windows₀ i₀ i-end windows i = length windows₀ - i
 
 loop-holds : tie.Need-loop-holds Inv-loop μ-loop
-loop-holds c = search needs
+unfolding fromPlace
+loop-holds c = (refl, omega arith, refl)
 
-filled-requires : tie.Need-filled-requires Inv-loop μ-loop
-filled-requires c κs = search needs
+sixty-fourths-requires : tie.Need-sixty-fourths-requires Inv-loop μ-loop
+sixty-fourths-requires c κs = search needs
 
 mul-windows : tie.Need-mul-windows Inv-loop μ-loop
 mul-windows c = search needs
@@ -34,13 +38,19 @@ loop-less : tie.Need-loop-less Inv-loop μ-loop
 loop-less c = search needs
 
 loop-again : tie.Need-loop-again Inv-loop μ-loop
-loop-again c = search needs
+loop-again c =
+    let l = c .before .before in
+    let s = l .before .before .args .start in
+    (fill-next (sixtyFourths s) 0 (l .loop .windows) (l .loop .i) (omega arith) (c .sixty-fourths .ensures ∙ ap (sixtyFourths s) (sym (zero-add (l .loop .i)))) (l .loop .inv .0), omega arith, simp length-set (l .loop .inv .2))
 
 same-length : tie.Need-same-length Inv-loop μ-loop
 same-length c = search needs
 
 returns : tie.Need-returns Inv-loop μ-loop
-returns c = search needs
+unfolding filled
+returns c =
+    let l = c .before in
+    fill-end (sixtyFourths (l .before .before .args .start)) 0 (l .loop .windows) (l .loop .i) _ (l .loop .inv .2) (omega arith) (l .loop .inv .0)
 
 pub fill-spec : {M : Type 1} → statement M
 fill-spec =
@@ -48,9 +58,8 @@ fill-spec =
     (tie.spec
     Inv-loop
     μ-loop
-    next-whole-requires
     loop-holds
-    filled-requires
+    sixty-fourths-requires
     mul-windows
     slice-write-windows
     add-i

@@ -1,0 +1,2 @@
+-- Laws of words and cases.
+pub mod CaseLaws

@@ -1,0 +1,3 @@
+-- What only this program cites.
+pub mod Bank
+pub mod Lines

@@ -1,0 +1,2 @@
+-- What only this program cites.
+pub mod Lines

@@ -1,0 +1,2 @@
+-- What the second channel's correction is seen by.
+pub mod SecondSeen

@@ -1,0 +1,42 @@
+-- `tracker_vectors::after::guarded_stands` meets its contract. Assumes nothing.
+use mathlib.Core.Path.{_≡_, refl, sym, _∙_}
+use mathlib.Core.Bool.{Bool, _&&_}
+use mathlib.Core.List.{List, [], _∷_}
+use Prim.Native.Nat.{ℕ}
+use borrow.Author.Needs.{needs}
+use lib.ListN.{drop}
+use Rattle.vectors.specs.Code.Lines.{standsAt}
+use Rattle.vectors.proofs.LineLaws.{standsAt-both, stands-in-rest}
+use Rattle.tracker_vectors.specs.declared.after.After.{After}
+use Rattle.tracker_vectors.specs.Code.After.{afterWords, guardedWords}
+use Rattle.tracker_vectors.proofs.after.guarded_stands.Statement.{statement}
+use Rattle.tracker_vectors.proofs.after.guarded_stands.Tie as tie
+
+parts : (ws : List ℕ) (r : After) {left : List ℕ} {a b : Bool} → a ≡ standsAt 0 (r .ekf .«convergence_guard» ∷ []) ws → left ≡ drop 1 ws → b ≡ standsAt 0 (afterWords r) left
+    → (a && b) ≡ standsAt 0 (guardedWords r) ws
+unfolding guardedWords
+parts ws r ea el eb =
+    let e = stands-in-rest 1 (afterWords r) ws el eb in
+    (λ j. ea j && e j) ∙ sym (standsAt-both 0 1 (r .ekf .«convergence_guard» ∷ []) (afterWords r) ws refl)
+
+slice-aggregate-stands : tie.Need-slice-aggregate-stands
+slice-aggregate-stands c = search needs
+
+stands-requires : tie.Need-stands-requires
+stands-requires c κs = search needs
+
+rest-requires : tie.Need-rest-requires
+rest-requires c κs = search needs
+
+after-stands-requires : tie.Need-after-stands-requires
+after-stands-requires c κs = search needs
+
+returns : tie.Need-returns
+returns c =
+    let s = c .before .before .before .before .before in
+    parts (s .args .a .now) (s .args .r) (c .before .before .stands .ensures) (c .before .rest .ensures) (c .after-stands .ensures)
+
+pub guarded-stands-spec : {M : Type 1} → statement M
+guarded-stands-spec =
+    tie.close
+    (tie.spec slice-aggregate-stands stands-requires rest-requires after-stands-requires returns)

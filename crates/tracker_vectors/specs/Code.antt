@@ -1,0 +1,4 @@
+-- What only this program cites.
+pub mod Before
+pub mod After
+pub mod Lines
