@@ -1,9 +1,9 @@
 //! Channels built from plain numbers, which no calls make: three unlike trackers, pruning, trackers 1 and 2 in use, any marks, NaN and infinities.
 //! Each is given a few blocks, in the reference and in the port, and all that they answer and leave is compared bit for bit.
 //!
-//!     built [--build exported|counted] [--seed N] [--count N] [--longest PAIRS] [--words 1]
+//!     built [--build exported|counted] [--seed N] [--count N] [--longest PAIRS] [--words 1] [--ruled 1]
 //!
-//! With `--words 1` the port is left out, and the channels, the blocks and what the reference answers are written as words, for
+//! With `--words 1`, or `--ruled 1` if the blocks' lists are to be told by rules, the port is left out, and the channels, the blocks and what the reference answers are written as words, for
 //! crates/channel_vectors (README.md has their form). The window memory is then filled by a rule, so that it need not be written.
 
 mod api;
@@ -15,7 +15,7 @@ mod values;
 use api::Reference;
 use api::shapes::{Built, MEMORY, PAIRS, STRETCH, Tracker};
 use beside::{Beside, Tally};
-use recorded::{Kind, Record};
+use recorded::{Kind, Record, Rule};
 use values::{Random, Signal, Words, built, built_f32, stop};
 
 const TURN: f64 = 2.0 * std::f64::consts::PI;
@@ -137,6 +137,7 @@ fn told_window(r: &mut Random, odd: bool, b: &Built) -> Vec<f64> {
 struct Run {
     reference: Reference,
     as_words: bool,
+    by_rule: bool,
     longest: u64,
     tally: Tally,
 }
@@ -154,6 +155,15 @@ impl Run {
         if let Some(line) = asked {
             recorded::answered(line, &a, first, second, window);
         }
+        self.told(both);
+    }
+
+    /// A block whose lists are made by rules.
+    fn ruled(&mut self, both: &mut Beside, flag: u64, rules: &mut [Rule; 2], pairs: [usize; 2], window: &mut [f64]) {
+        let line = recorded::asked_by_rule(flag, (&rules[0], pairs[0]), (&rules[1], pairs[1]), MEMORY);
+        let (mut first, mut second) = (rules[0].samples(pairs[0]), rules[1].samples(pairs[1]));
+        let a = both.block(flag, &mut first, &mut second, window, &mut self.tally);
+        recorded::answered_by_rule(line, &a, &first, &second, window);
         self.told(both);
     }
 
@@ -193,6 +203,11 @@ impl Run {
             let pairs = if flag > 1 { 0 } else { r.below(self.longest + 1) as usize };
             let pairs = if r.chance(3) { 0 } else { pairs };
             let there = !r.chance(4);
+            if self.by_rule {
+                let mut rules = [0, 1].map(|_| Rule::carrier(there as u8 as f64 * 0.7, r.noise() * 100.0, decimated, 0.3, r.bits()));
+                self.ruled(&mut both, flag, &mut rules, [pairs, pairs * b.two as usize], &mut window);
+                continue;
+            }
             let mut first = signals[0].samples(&mut r, pairs, there);
             let mut second = if b.two != 0 { signals[1].samples(&mut r, pairs, there) } else { Vec::new() };
             self.block(&mut both, flag, &mut first, &mut second, &mut window);
@@ -212,8 +227,9 @@ fn main() {
     let reference = Reference::named(name).unwrap_or_else(|| stop("--build exported or counted"));
     let (seed, count) = (words.number("--seed", 1), words.number("--count", 1_000));
     let longest = words.number("--longest", 300).min(4_096);
-    let as_words = words.number("--words", 0) != 0;
-    let mut run = Run { reference, as_words, longest, tally: Tally::default() };
+    let by_rule = words.number("--ruled", 0) != 0;
+    let as_words = by_rule || words.number("--words", 0) != 0;
+    let mut run = Run { reference, as_words, by_rule, longest, tally: Tally::default() };
     for seed in seed..seed + count {
         run.one(seed);
     }

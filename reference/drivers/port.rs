@@ -3,153 +3,13 @@
 
 use crate::api::shapes::{Answer, Built, PAIRS, Settings, Tracker};
 
-#[repr(C)]
-#[derive(Clone, Copy)]
-pub struct PortSettings {
-    rate: u64,
-    factor: u64,
-    modulation: u64,
-    adaptive: bool,
-    dual_lock: bool,
-    bank: bool,
-    two: bool,
-    fade: u64,
-    ratio: f64,
-}
+#[path = "../../include/gibsumac.rs"]
+mod gibsumac;
 
-#[repr(C)]
-#[derive(Clone, Copy)]
-pub struct PortCarriers {
-    nominal: f64,
-    target: f64,
-    target2: f64,
-    frequency2: f64,
-}
-
-#[repr(C)]
-#[derive(Clone, Copy)]
-pub struct PortAnswer {
-    refusal: u64,
-    locked: bool,
-    tracker: u64,
-    in_fade: bool,
-    fade_count: u64,
-    ended: bool,
-    phase: f64,
-    frequency: f64,
-    snr: f64,
-    electrons: f64,
-    metric: f64,
-}
-
-#[repr(C)]
-#[derive(Clone, Copy)]
-pub struct PortSetup {
-    rate: u64,
-    factor: u64,
-    bank: bool,
-    two: bool,
-}
-
-#[repr(C)]
-#[derive(Clone, Copy)]
-pub struct PortReading {
-    phase: f64,
-    frequency: f64,
-    snr: f64,
-    electrons: f64,
-}
-
-#[repr(C)]
-#[derive(Clone, Copy)]
-pub struct PortTuning {
-    q_phase: f64,
-    q_freq: f64,
-    q_chirp: f64,
-    r_meas: f64,
-    ts: f64,
-    frequency_ratio: f64,
-    adaptive_ekf: bool,
-    dual_lock: bool,
-}
-
-#[repr(C)]
-#[derive(Clone, Copy)]
-pub struct PortPowerSums {
-    pushed: usize,
-    sum_abs_i: f64,
-    sum_q_sq: f64,
-}
-
-#[repr(C)]
-#[derive(Clone, Copy)]
-pub struct PortTracker {
-    modulation: u64,
-    tuning: PortTuning,
-    x: [f64; 6],
-    p: [f64; 36],
-    envelope_ema: f64,
-    power: PortPowerSums,
-    lock_metric: f64,
-    is_locked: bool,
-    convergence_guard: usize,
-}
-
-#[repr(C)]
-#[derive(Clone, Copy)]
-pub struct PortChannel {
-    setup: PortSetup,
-    idle: bool,
-    carriers: PortCarriers,
-    pll: PortTracker,
-    t0: PortTracker,
-    t1: PortTracker,
-    t2: PortTracker,
-    active_idx: u64,
-    in_fade: bool,
-    fade_counter: u64,
-    max_fade_steps: u64,
-    terminated_in_fade: bool,
-    ever_locked: bool,
-    last_snr: f32,
-    is_locked: bool,
-    reading: PortReading,
-}
-
-#[repr(C)]
-struct Returned {
-    refusal: u64,
-    channel: PortChannel,
-}
-
-#[repr(C)]
-struct Blocked {
-    answer: PortAnswer,
-    channel: PortChannel,
-}
-
-#[repr(C)]
-struct Figures {
-    values: [f32; 12],
-}
+use gibsumac::{gibsumac_assign, gibsumac_figures, gibsumac_open, gibsumac_release};
 
 #[link(name = "gibsumac", kind = "static")]
-unsafe extern "C" {
-    fn gibsumac_open(settings: PortSettings) -> Returned;
-    fn gibsumac_assign(channel: PortChannel, carriers: PortCarriers) -> Returned;
-    fn gibsumac_block(
-        channel: PortChannel,
-        flag: u64,
-        first: *mut f32,
-        nfirst: usize,
-        second: *mut f32,
-        nsecond: usize,
-        windows: *mut f64,
-        nwindows: usize,
-    ) -> Blocked;
-    fn gibsumac_release(channel: PortChannel) -> PortChannel;
-    fn gibsumac_figures(channel: PortChannel) -> Figures;
-}
+unsafe extern "C" {}
 
 /// Whether two floats are the same bits, or both NaN.
 pub fn same(a: f64, b: f64) -> bool {
@@ -173,11 +33,11 @@ fn pushed(t: &Tracker) -> usize {
     if (t.window_fill as usize) < PAIRS { t.window_fill as usize } else { PAIRS + t.window_start as usize }
 }
 
-impl PortTracker {
-    fn of(t: &Tracker) -> PortTracker {
-        PortTracker {
+impl gibsumac::Tracker {
+    fn of(t: &Tracker) -> gibsumac::Tracker {
+        gibsumac::Tracker {
             modulation: t.modulation as u64,
-            tuning: PortTuning {
+            tuning: gibsumac::Tuning {
                 q_phase: t.q_phase,
                 q_freq: t.q_freq,
                 q_chirp: t.q_chirp,
@@ -190,7 +50,7 @@ impl PortTracker {
             x: t.x,
             p: t.p,
             envelope_ema: t.envelope,
-            power: PortPowerSums { pushed: pushed(t), sum_abs_i: t.sum_abs_i, sum_q_sq: t.sum_q_sq },
+            power: gibsumac::PowerSums { pushed: pushed(t), sum_abs_i: t.sum_abs_i, sum_q_sq: t.sum_q_sq },
             lock_metric: t.metric,
             is_locked: t.locked != 0,
             convergence_guard: t.guard as usize,
@@ -199,7 +59,7 @@ impl PortTracker {
 
     /// What differs from a tracker of the reference.
     fn unlike(&self, t: &Tracker) -> Option<&'static str> {
-        let o = PortTracker::of(t);
+        let o = gibsumac::Tracker::of(t);
         let (k, l) = (&self.tuning, &o.tuning);
         let floats = [
             (k.q_phase, l.q_phase),
@@ -238,41 +98,39 @@ impl PortTracker {
 /// The port's channel, and how often it was compared.
 #[derive(Clone)]
 pub struct Port {
-    channel: PortChannel,
+    channel: gibsumac::Channel,
 }
 
 impl Port {
     pub fn open(s: &Settings) -> (u32, Port) {
-        let r = unsafe {
-            gibsumac_open(PortSettings {
-                rate: s.rate,
-                factor: s.factor,
-                modulation: s.modulation,
-                adaptive: s.adaptive != 0,
-                dual_lock: s.dual_lock != 0,
-                bank: s.bank != 0,
-                two: s.two != 0,
-                fade: s.fade,
-                ratio: s.ratio,
-            })
-        };
+        let r = gibsumac_open(gibsumac::Settings {
+            rate: s.rate,
+            factor: s.factor,
+            modulation: s.modulation,
+            adaptive: s.adaptive != 0,
+            dual_lock: s.dual_lock != 0,
+            bank: s.bank != 0,
+            two: s.two != 0,
+            fade: s.fade,
+            ratio: s.ratio,
+        });
         (r.refusal as u32, Port { channel: r.channel })
     }
 
     /// A channel from plain numbers; without a bank the three trackers are those of `pll`.
     pub fn build(b: &Built) -> Port {
-        let t = |i: usize| PortTracker::of(&b.trackers[i]);
+        let t = |i: usize| gibsumac::Tracker::of(&b.trackers[i]);
         Port {
-            channel: PortChannel {
-                setup: PortSetup { rate: b.rate, factor: b.factor, bank: b.bank != 0, two: b.two != 0 },
+            channel: gibsumac::Channel {
+                setup: gibsumac::Setup { rate: b.rate, factor: b.factor, bank: b.bank != 0, two: b.two != 0 },
                 idle: b.assigned == 0,
-                carriers: PortCarriers {
+                carriers: gibsumac::Carriers {
                     nominal: b.nominal,
                     target: b.target,
                     target2: b.target2,
                     frequency2: b.frequency2,
                 },
-                pll: PortTracker::of(&b.pll),
+                pll: gibsumac::Tracker::of(&b.pll),
                 t0: t(0),
                 t1: t(1),
                 t2: t(2),
@@ -284,32 +142,19 @@ impl Port {
                 ever_locked: b.ever_locked != 0,
                 last_snr: b.last_snr,
                 is_locked: b.locked != 0,
-                reading: PortReading { phase: b.phase, frequency: b.frequency, snr: b.snr, electrons: b.electrons },
+                reading: gibsumac::Reading { phase: b.phase, frequency: b.frequency, snr: b.snr, electrons: b.electrons },
             },
         }
     }
 
     pub fn assign(&mut self, nominal: f64, target: f64, target2: f64, frequency2: f64) -> u32 {
-        let r = unsafe { gibsumac_assign(self.channel, PortCarriers { nominal, target, target2, frequency2 }) };
+        let r = gibsumac_assign(self.channel, gibsumac::Carriers { nominal, target, target2, frequency2 });
         self.channel = r.channel;
         r.refusal as u32
     }
 
     pub fn block(&mut self, flag: u64, first: &mut [f32], second: &mut [f32], windows: &mut [f64]) -> Answer {
-        let r = unsafe {
-            gibsumac_block(
-                self.channel,
-                flag,
-                first.as_mut_ptr(),
-                first.len(),
-                second.as_mut_ptr(),
-                second.len(),
-                windows.as_mut_ptr(),
-                windows.len(),
-            )
-        };
-        self.channel = r.channel;
-        let a = r.answer;
+        let a = gibsumac::block(&mut self.channel, flag, first, second, windows);
         Answer {
             refusal: a.refusal as u32,
             locked: a.locked as u32,
@@ -327,11 +172,11 @@ impl Port {
     }
 
     pub fn release(&mut self) {
-        self.channel = unsafe { gibsumac_release(self.channel) };
+        self.channel = gibsumac_release(self.channel);
     }
 
     pub fn figures(&self) -> [f32; 12] {
-        unsafe { gibsumac_figures(self.channel).values }
+        gibsumac_figures(self.channel).values
     }
 
     /// What differs from a channel of the reference. Without a bank its trackers and marks are not compared: the Rust has none.

@@ -17,6 +17,7 @@ pub enum Kind {
     Release,
     Figures,
     State,
+    Ruled,
 }
 
 /// One line.
@@ -64,11 +65,63 @@ impl Record {
     }
 }
 
-/// Many numbers in one, by their bits.
-fn mixed(values: &[f64]) -> u64 {
+/// Many numbers in one.
+fn mixed_bits(values: impl Iterator<Item = u64>) -> u64 {
     const PRIME: u64 = (1 << 59) - 55;
-    values.iter().fold(0, |sum, v| (sum % PRIME) * 31 + bits(*v) % PRIME)
+    values.fold(0, |sum, v| (sum % PRIME) * 31 + v % PRIME)
 }
+
+fn mixed(values: &[f64]) -> u64 {
+    mixed_bits(values.iter().map(|v| bits(*v)))
+}
+
+fn mixed32(values: &[f32]) -> u64 {
+    mixed_bits(values.iter().map(|v| bits32(*v) as u64))
+}
+
+/// Samples by a rule that needs no sine, so that a long list is told by six numbers: a carrier that turns by (cos, sin) from sample to sample, and noise.
+#[derive(Clone, Copy, Default)]
+pub struct Rule {
+    pub re: f64,
+    pub im: f64,
+    pub cos: f64,
+    pub sin: f64,
+    pub noise: f64,
+    pub seed: u64,
+}
+
+impl Rule {
+    /// A carrier of this size, and noise up to half of `noise` to either side.
+    pub fn carrier(size: f64, hertz: f64, rate: f64, noise: f64, seed: u64) -> Rule {
+        let turn = std::f64::consts::TAU * hertz / rate;
+        Rule { re: size, im: 0.0, cos: turn.cos(), sin: turn.sin(), noise, seed: seed % NOISES }
+    }
+
+    fn noise(&mut self) -> f64 {
+        self.seed = (self.seed * 1_103_515_245 + 12_345) % NOISES;
+        self.seed as f64 / NOISES as f64 - 0.5
+    }
+
+    /// So many samples; the rule then goes on behind them.
+    pub fn samples(&mut self, pairs: usize) -> Vec<f32> {
+        let mut list = Vec::with_capacity(2 * pairs);
+        for _ in 0..pairs {
+            let (re, im) = (self.re, self.im);
+            list.push((re + self.noise * self.noise()) as f32);
+            list.push((im + self.noise * self.noise()) as f32);
+            self.re = re * self.cos - im * self.sin;
+            self.im = re * self.sin + im * self.cos;
+        }
+        list
+    }
+
+    fn told(&self, line: Record, pairs: usize) -> Record {
+        line.whole(pairs as u64).floats(&[self.re, self.im, self.cos, self.sin, self.noise]).whole(self.seed)
+    }
+}
+
+/// Noise has 31 bits.
+const NOISES: u64 = 1 << 31;
 
 /// What place i of the window memory holds after a fill by `start`.
 pub fn filled(start: u64, i: u64) -> f64 {
@@ -95,10 +148,24 @@ pub fn asked(flag: u64, first: &[f32], second: &[f32], length: usize) -> Record 
     Record::new(Kind::Block).whole(flag).list(first).list(second).whole(length as u64)
 }
 
-pub fn answered(asked: Record, a: &Answer, first: &[f32], second: &[f32], window: &[f64]) {
+fn answer(asked: Record, a: &Answer) -> Record {
     let marks = [a.refusal as u64, a.locked as u64, a.tracker as u64, a.in_fade as u64, a.fade_count, a.ended as u64];
-    let line = asked.wholes(&marks).floats(&[a.phase, a.frequency, a.snr, a.electrons, a.metric]);
-    line.floats32(first).floats32(second).whole(mixed(window)).print();
+    asked.wholes(&marks).floats(&[a.phase, a.frequency, a.snr, a.electrons, a.metric])
+}
+
+pub fn answered(asked: Record, a: &Answer, first: &[f32], second: &[f32], window: &[f64]) {
+    answer(asked, a).floats32(first).floats32(second).whole(mixed(window)).print();
+}
+
+/// The words before the answer of a block whose lists are made by rules, each with its pairs.
+pub fn asked_by_rule(flag: u64, first: (&Rule, usize), second: (&Rule, usize), length: usize) -> Record {
+    let line = first.0.told(Record::new(Kind::Ruled).whole(flag), first.1);
+    second.0.told(line, second.1).whole(length as u64)
+}
+
+/// The lists that were left are mixed into a word each.
+pub fn answered_by_rule(asked: Record, a: &Answer, first: &[f32], second: &[f32], window: &[f64]) {
+    answer(asked, a).whole(mixed32(first)).whole(mixed32(second)).whole(mixed(window)).print();
 }
 
 /// A tracker to be built: what differs from a new one. The covariance is left out where it is the new one's.
