@@ -8,7 +8,8 @@
  * WHAT A CALLER GETS
  *
  * Nothing need be checked before a call: every function answers for every argument, and refuses by a number what lies outside its limits (the enum
- * gibsumac_refusal). A refused call returns the channel that it was given, each field as it was, and leaves all lent memory. The same calls give the same
+ * gibsumac_refusal). A refused call returns the channel that it was given, each field as it was, and leaves all lent memory (open, which is given none,
+ * returns one of 1,000 Hz). The same calls give the same
  * bits, on every machine and whatever other channels do: there is no state behind the functions, and they may be called from any number of threads, each
  * with its own lent memory.
  *
@@ -65,7 +66,7 @@ enum gibsumac_refusal {
     GIBSUMAC_OTHER_HEADER = 1000 /* no refusal of the core: gibsumac_receiver_open alone answers it, where gibsumac_matches() does not hold */
 };
 
-/* What a block is given as. Flags 2, 3 and 4 take no samples: the first list is then empty (with two frequencies both are), or the call is refused 9. */
+/* What a block is given as. Flags 2, 3 and 4 take no samples: both lists are then empty, or the call is refused, 9 for the first and 10 for the second. */
 enum gibsumac_flag {
     GIBSUMAC_NO_SIGNAL = 0, /* every tracker unlocks, a fade is over. Without samples it is a restart: the next flag 1 block starts anew */
     GIBSUMAC_SIGNAL = 1,    /* the samples are tracked */
@@ -118,7 +119,7 @@ typedef struct {
     uint64_t factor;     /* decimation factor, 1 to 4,096 */
     uint64_t modulation; /* enum gibsumac_modulation */
     bool adaptive;       /* process noise grows while the lock metric is low */
-    bool dual_lock;      /* the lock is lost only where the power ratio agrees */
+    bool dual_lock;      /* a metric below 0.1 ends the lock only where the power ratio is low too, one below 0.02 always */
     bool bank;           /* three trackers beside the channel's own, and fades */
     bool two;            /* two frequencies: each block has a second list */
     /* How long a bank coasts: "seconds" that become trunc(fade x rate / factor / 40,000) blocks, however long a block is. For T seconds in blocks of N

@@ -52,15 +52,24 @@ pub fn rest(words: &[u64], i: usize) -> &[u64]
     &words[a..]
 }
 
+// As many f64 from place i on as the lent list holds.
+fn floats(words: &[u64], i: usize, list: &mut [f64])
+    ensures { λ _. ⌜ now (list .exit) ≡ float64sAt i (length (now (list .entry))) (now (words .entry)) ⌝ }
+{
+    let part = rest(words, i);
+    let mut k = 0;
+    while k < list.len() {
+        list[k] = float64(part, k);
+        k += 1;
+    }
+}
+
 // Six f64 from place i on.
 pub fn six(words: &[u64], i: usize) -> [f64; 6]
     ensures { λ r. ⌜ r ≡ float64sAt i 6 (now (words .entry)) ⌝ }
 {
-    let part = rest(words, i);
     let mut x = [0.0; 6];
-    for k in 0..6 {
-        x[k] = float64(part, k);
-    }
+    floats(words, i, &mut x);
     x
 }
 
@@ -68,11 +77,8 @@ pub fn six(words: &[u64], i: usize) -> [f64; 6]
 pub fn matrix(words: &[u64], i: usize) -> [f64; 36]
     ensures { λ r. ⌜ r ≡ float64sAt i 36 (now (words .entry)) ⌝ }
 {
-    let part = rest(words, i);
     let mut p = [0.0; 36];
-    for k in 0..36 {
-        p[k] = float64(part, k);
-    }
+    floats(words, i, &mut p);
     p
 }
 
