@@ -24,6 +24,7 @@ class Edit:
     new: str
     times: int = 1
     until: str = ""      # if given, the edit replaces from `old` up to, not including, this
+    stays: bool = False  # what `old` finds stays, and `new` comes after it
     builds: tuple = ALL
 
 
@@ -53,6 +54,12 @@ EDITS = [
     # only so can a block meet contents that it did not leave there.
     Edit("ekf.rs", "the window in lent memory", r"use std::collections::VecDeque;",
          "use crate::window::Ring as VecDeque;", builds=PORTED),
+
+    # The request for one name for half a turn: after each wrap minus half takes the place of plus half.
+    Edit("ekf.rs", "the wrapped innovation, at plus half", r"let z = \(z \+[^;]*;",
+         " let z = if z >= half_limit { -half_limit } else { z };", stays=True, builds=PORTED),
+    Edit("ekf.rs", "the wrapped phase, at plus half", r"self\.x\[idx\] = \(self[^;]*;",
+         " if self.x[idx] >= half_limit { self.x[idx] = -half_limit; }", stays=True, builds=PORTED),
 
     # The scope: the reference begins at the decimated samples. The caller puts the lists into the
     # channel and hands over the flag; the callers that hand over raw samples are cut off.
@@ -127,7 +134,7 @@ def apply(edit, text):
     if edit.until:
         start, end = span(text, edit.old, edit.until, what)
         return text[:start] + edit.new + text[end:]
-    text, times = re.subn(edit.old, lambda _: edit.new, text)
+    text, times = re.subn(edit.old, lambda found: found.group() * edit.stays + edit.new, text)
     if times != edit.times:
         stop(f"{what}: found {times} times, not {edit.times}; is this another source?")
     return text

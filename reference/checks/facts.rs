@@ -97,10 +97,6 @@ fn constants(f: Reference) {
     // the two intervals
     let (rate, factor) = (10_020_017.0, 110.0);
     assert_ne!(hex(1.0 / (rate / factor)), hex(factor / rate));
-    // the wrap to plus half
-    let wrap = |v: f64, limit: f64| (v + limit / 2.0).rem_euclid(limit) - limit / 2.0;
-    assert_eq!(hex(wrap(-3.1415926535897936, TURN)), hex(std::f64::consts::PI));
-    assert_eq!(hex(wrap(-0.7853981633974484, TURN / 4.0)), hex(std::f64::consts::FRAC_PI_4));
 }
 
 /// The scope's value table, as far as it is about single functions; 1.98 as f32.
@@ -210,6 +206,48 @@ fn zero_sample(f: Reference) {
             f.update(&mut t, &mut window, [0.0, 0.0]);
             assert!((t.metric - metric).abs() < 1e-12, "phase {phase}: {}", t.metric);
         }
+    }
+}
+
+/// Where a phase is wrapped to that is only wrapped: without covariance the gain is 0.
+fn wraps(f: Reference, modulation: u64, phase: f64, wrapped: f64) {
+    for channel in 0..2 {
+        let (mut t, mut window) = fresh(f, modulation);
+        t.p = [0.0; 36];
+        t.x[3 * channel] = phase;
+        assert!(f.correct(&mut t, &mut window, channel as u32, [1.0, 0.0]).is_some());
+        assert_eq!(hex(t.x[3 * channel]), hex(wrapped), "modulation {modulation}, channel {channel}, phase {phase}");
+    }
+}
+
+/// Half the range of each modulation, and the phase next below minus half.
+const ENDS: [(u64, f64, f64); 3] = [
+    (0, std::f64::consts::PI, -3.1415926535897936),
+    (1, std::f64::consts::PI, -3.1415926535897936),
+    (2, std::f64::consts::FRAC_PI_4, -0.7853981633974484),
+];
+
+/// The ends of the range: next below minus half the source's steps end at plus half. From next below plus half they end at minus half, since the sum is
+/// rounded up to the whole length. The neighbours on both sides stay apart.
+fn source_wraps(f: Reference) {
+    for (modulation, half, below) in ENDS {
+        wraps(f, modulation, below, half);
+        ends_apart(f, modulation, half, below);
+    }
+}
+
+/// The same where minus half takes the place of plus half.
+fn one_name(f: Reference) {
+    for (modulation, half, below) in ENDS {
+        wraps(f, modulation, below, -half);
+        ends_apart(f, modulation, half, below);
+    }
+}
+
+fn ends_apart(f: Reference, modulation: u64, half: f64, below: f64) {
+    let second = half.next_down().next_down();
+    for (phase, wrapped) in [(-half, -half), (below.next_down(), second), (half, -half), (half.next_down(), -half), (second, second)] {
+        wraps(f, modulation, phase, wrapped);
     }
 }
 
@@ -528,7 +566,7 @@ fn start_in_fade(f: Reference) {
 fn main() {
     let name = std::env::args().nth(1).unwrap_or_default();
     let f = Reference::named(&name).unwrap_or_else(|| values::stop("facts exported, platform or counted"));
-    let facts: [(&str, fn(Reference)); 21] = [
+    let facts: [(&str, fn(Reference)); 22] = [
         ("constants", constants),
         ("value table", value_table),
         ("opening", opening),
@@ -536,6 +574,7 @@ fn main() {
         ("ratio decides", ratio_decides),
         ("guard counts", guard_counts),
         ("zero sample", zero_sample),
+        ("one name for half a turn", if name == "platform" { source_wraps } else { one_name }),
         ("lost", lost),
         ("no gain, floor", no_gain_and_floor),
         ("asymmetry", asymmetry),

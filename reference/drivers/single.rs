@@ -16,8 +16,9 @@ mod values;
 
 use api::Reference;
 use api::shapes::{Built, NONE, PAIRS, STRETCH, Tracker};
+use std::f64::consts::PI;
 use std::io::Write;
-use std::sync::atomic::{AtomicBool, Ordering};
+use std::sync::atomic::{AtomicBool, AtomicUsize, Ordering};
 use values::{ODD, Random, Signal, Words, built, built_f32, hex, hex32, stop};
 
 /// Whether lines are written as words.
@@ -238,8 +239,34 @@ fn predict(f: Reference, r: &mut Random) -> Line {
 }
 
 fn correct(f: Reference, r: &mut Random) -> Line {
-    let (mut t, mut window) = some_tracker(f, r);
-    let (channel, s) = (r.below(2), some_sample(r));
+    let (t, window) = some_tracker(f, r);
+    corrected(f, t, window, r.below(2), some_sample(r))
+}
+
+/// A correction that only wraps: without covariance the gain is 0, and the phase is at an end of the range, a whole range away from one or beside these.
+/// All of them come by turns.
+fn wrap(f: Reference, _: &mut Random) -> Line {
+    static TURN: AtomicUsize = AtomicUsize::new(0);
+    let turn = TURN.fetch_add(1, Ordering::Relaxed);
+    let (modulation, channel, beside, end) = (turn % 3, turn / 3 % 2, turn / 6 % 5, turn / 30 % WRAP_ENDS.len());
+    let limit = if modulation == 2 { PI / 2.0 } else { 2.0 * PI };
+    let mut phase = limit * WRAP_ENDS[end];
+    for _ in 2..beside {
+        phase = phase.next_up();
+    }
+    for _ in beside..2 {
+        phase = phase.next_down();
+    }
+    let mut t = f.tracker(40_000.0, modulation as u64);
+    t.p = [0.0; 36];
+    t.x[3 * channel] = phase;
+    corrected(f, t, [0.0; STRETCH], channel as u64, [1.0, 0.0])
+}
+
+/// The ends of the range and one more place that is wrapped to one, in ranges.
+const WRAP_ENDS: [f64; 3] = [-0.5, 0.5, 1.5];
+
+fn corrected(f: Reference, mut t: Tracker, mut window: [f64; STRETCH], channel: u64, s: [f32; 2]) -> Line {
     let mut line = Line::new("correct");
     line.whole(channel);
     write_before(&mut line, &t, &window);
@@ -533,7 +560,7 @@ fn cancel(f: Reference, r: &mut Random) -> Line {
 
 type Kind = fn(Reference, &mut Random) -> Line;
 
-const KINDS: [(&str, Kind); 14] = [
+const KINDS: [(&str, Kind); 15] = [
     ("predict", predict),
     ("correct", correct),
     ("update", update),
@@ -548,6 +575,7 @@ const KINDS: [(&str, Kind); 14] = [
     ("bank", bank),
     ("cancel", cancel),
     ("squared", squared),
+    ("wrap", wrap),
 ];
 
 fn main() {

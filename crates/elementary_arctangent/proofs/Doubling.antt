@@ -11,7 +11,8 @@ use lib.Ieee.Exact.{HasValue}
 use lib.Ieee.Order.{round-mono, le-of-values}
 use lib.Ieee.Positive.{num, den}
 use Rattle.elementary_fixed_point.specs.Code.Bounds.{nonnegative}
-use Rattle.elementary_fixed_point.proofs.PowerOfTwo.{below-top, times-exact}
+use Rattle.ieee754_rounding.proofs.FormatValues.{fitting}
+use Rattle.elementary_fixed_point.proofs.PowerOfTwo.{times-exact}
 
 over-top : round binary64 false (2 ^ 1024) 1 ≡ inf false
 unfolding round size span climb units
@@ -73,7 +74,7 @@ module _ (m : ℕ) (e : ℤ) (n : ℕ) (d : ℤ) (fa : T (fits binary64 (fin fal
       reach : m * up e * 2 * down d ≤ n * up d * down e → m * up e * (1 * 2 ^ 1) < 2 ^ 1024 * (down e * 1)
       reach g =
           lt-of-mul-lt-mul-right (down d)
-          (lt-of-le-of-lt g (lt-of-lt-of-le (mul-lt-mul-of-pos-right (below-top binary64 n d fb) (down-pos e)) (le-of-eq (mul-right-comm (2 ^ 1024) (down d) (down e) ∙ ap (λ (z : ℕ). 2 ^ 1024 * z * down d) (sym (mul-one (down e)))))))
+          (lt-of-le-of-lt g (lt-of-lt-of-le (mul-lt-mul-of-pos-right (fitting binary64 false n d fb .below-top) (down-pos e)) (le-of-eq (mul-right-comm (2 ^ 1024) (down d) (down e) ∙ ap (λ (z : ℕ). 2 ^ 1024 * z * down d) (sym (mul-one (down e)))))))
 
 -- ---- of any two such floats
 turn : (x y : ℕ) → 2 * (x * y) ≡ x * 2 * y

@@ -21,7 +21,8 @@ use Rattle.elementary_fixed_point.specs.Fraction.{Fraction, sum, negated, Near,
 use Rattle.elementary_fixed_point.specs.Code.Bounds.{Approximates}
 use Rattle.elementary_fixed_point.proofs.PowerSums.{pow-one}
 use Rattle.elementary_fixed_point.proofs.Tails.{terms-mono}
-use Rattle.elementary_fixed_point.proofs.PowerOfTwo.{below-top, times-exact}
+use Rattle.ieee754_rounding.proofs.FormatValues.{fitting}
+use Rattle.elementary_fixed_point.proofs.PowerOfTwo.{times-exact}
 use Rattle.elementary_fixed_point.proofs.ToFloat.{near-scaled}
 use Rattle.elementary_arctangent.specs.Angle.{taylor, uptoOne, A, eighthTurn}
 use Rattle.elementary_arctangent.proofs.Doubling.{either}
@@ -180,7 +181,7 @@ unfolding mul
 small-below m e n d fa t =
     le-of-lt (lt-of-not-le (λ (g : n * up d * down e ≤ m * up e * down d * 2 ^ 16).
     not-both m e (round binary64 false (n * up d * (1 * 1)) (down d * 2 ^ 16)) (round binary64 false (m * up e * (1 * 2 ^ 0)) (down e * 1))
-    (times-exact binary64 m e fa 0 (subst (λ (z : ℕ). z < 2 ^ 1024 * (down e * 1)) (sym (ap (λ (z : ℕ). m * up e * z) (one-mul (2 ^ 0)) ∙ mul-one (m * up e))) (subst (λ (z : ℕ). m * up e < 2 ^ 1024 * z) (sym (mul-one (down e))) (below-top binary64 m e fa)))) t
+    (times-exact binary64 m e fa 0 (subst (λ (z : ℕ). z < 2 ^ 1024 * (down e * 1)) (sym (ap (λ (z : ℕ). m * up e * z) (one-mul (2 ^ 0)) ∙ mul-one (m * up e))) (subst (λ (z : ℕ). m * up e < 2 ^ 1024 * z) (sym (mul-one (down e))) (fitting binary64 false m e fa .below-top)))) t
     (round-mono binary64 (n * up d * (1 * 1)) (down d * 2 ^ 16) (m * up e * (1 * 2 ^ 0)) (down e * 1) (mul-pos (down-pos d) (pow-pos 16)) (mul-pos (down-pos e) (zero-lt-suc 0))
     (le-trans (le-of-eq (left (n * up d) (down e))) (le-trans g (le-of-eq (right (m * up e) (down d) (2 ^ 16))))))))
   where

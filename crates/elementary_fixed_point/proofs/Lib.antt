@@ -6,8 +6,6 @@ pub mod PowerSums
 pub mod Tails
 pub mod Approximations
 pub mod PowerOfTwo
-pub mod SameValue
-pub mod SmallRemainder
 pub mod FromFloat
 pub mod ToFloat
 pub mod RatioBound

@@ -18,7 +18,8 @@ use Rattle.ieee754_rounding.specs.Distance.{distance}
 use Rattle.elementary_fixed_point.specs.Fraction.{Fraction, negated, Near}
 use Rattle.elementary_fixed_point.specs.Conversion.{scaled}
 use Rattle.elementary_fixed_point.specs.Code.Bounds.{Approximates}
-use Rattle.elementary_fixed_point.proofs.PowerOfTwo.{significand-lt, over-exact}
+use Rattle.ieee754_rounding.proofs.FormatValues.{fitting}
+use Rattle.elementary_fixed_point.proofs.PowerOfTwo.{over-exact}
 
 -- w is c units of 2 ^ -k, and c is d rounded
 pub record Scaled (k d : ℕ) (w : Float) : Type 0 where
@@ -54,7 +55,7 @@ module _ (d g P : ℕ) (dl : 2 ^ 53 ≤ d) (Pp : 0 < P) (under : g ≤ (d + 1024
         q = m;
         i = i;
         is = refl;
-        short = significand-lt binary64 m (pos i) f;
+        short = fitting binary64 false m (pos i) f .small;
         under = le-of-mul-le-mul-right (le-trans (le-of-eq is) under) Pp;
         over = le-of-mul-le-mul-right (le-trans over (le-of-eq (ap (λ (z : ℕ). z + 1024 * P) (sym is) ∙ sym (add-mul (m * 2 ^ i) 1024 P)))) Pp;
         exact = λ (h : d < 2 ^ 53). absurd (not-le-of-lt h dl);
@@ -67,7 +68,7 @@ module _ (d g P : ℕ) (dl : 2 ^ 53 ≤ d) (Pp : 0 < P) (under : g ≤ (d + 1024
       let most : 2 * d ≤ m + 2048 =
       le-of-mul-le-mul-right {m = 2 * d} {n = m + 2048} {k = P}
       (le-trans (le-of-eq (mul-assoc 2 d P)) (le-trans (mul-le-mul-left 2 over) (le-trans (le-of-eq (mul-add 2 g (1024 * P))) (le-trans (add-le-add twice (le-of-eq (sym (mul-assoc 2 1024 P)))) (le-of-eq (sym (add-mul m 2048 P))))))) Pp in
-      absurd (never d m dl (significand-lt binary64 m (negsuc i) f) most)
+      absurd (never d m dl (fitting binary64 false m (negsuc i) f .small) most)
     where
       one-le : (i : ℕ) → 1 ≤ suc i
       one-le i = omega arith

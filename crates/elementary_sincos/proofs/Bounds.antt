@@ -23,7 +23,7 @@ use Rattle.elementary_fixed_point.proofs.PowerSums.{pos-pow, pow-one}
 use Rattle.elementary_fixed_point.proofs.Tails.{terms-mono}
 use Rattle.elementary_fixed_point.proofs.FromFloat.{whole}
 use Rattle.elementary_fixed_point.proofs.ToFloat.{near-neg}
-use Rattle.elementary_fixed_point.proofs.SameValue.{fits-unsigned}
+use Rattle.ieee754_rounding.proofs.FormatValues.{fits-unsigned}
 use Rattle.elementary_sincos.specs.Taylor.{fourthTerms, sineSum, cosineSum}
 use Rattle.elementary_sincos.specs.Reduction.{restNum, restDen}
 use Rattle.elementary_sincos.specs.Steps.{sineSeries, sine, cosine}

@@ -9,22 +9,16 @@ use lib.Dec.{T, leb, ltb→lt, leb→le, nleb→lt, lit<, lit≤}
 use lib.Pow.{pow-add, pow-pos, pow-mono, pow-lt}
 use lib.Ieee.{Float, nan, inf, fin, binary64, up, down, round, rem, neg, lt, fits, ofBits}
 use lib.Ieee.Exact.{HasValue, round-exact}
-use Rattle.elementary_fixed_point.proofs.PowerOfTwo.{significand-lt, exponent-low}
-use Rattle.elementary_fixed_point.proofs.SameValue.{fits-unsigned}
+use Rattle.ieee754_rounding.proofs.FormatValues.{fitting}
 use Rattle.ieee754_rounding.proofs.Opposites.{neg-round}
-use Rattle.elementary_fixed_point.proofs.SmallRemainder.{rem-below}
+use Rattle.ieee754.proofs.SmallRemainder.{rem-below}
+use Rattle.ieee754.proofs.RemainderSteps.{mul-mod}
 use Rattle.ieee754.specs.Binary64.{twoPi}
 use Rattle.elementary_sincos.specs.Code.Parts.{remainder}
 
 -- the f64 nearest 2π is this number of 2 ^ -47
 abbrev pub turns : ℕ
 turns = 884279719003555
-
-mul-mod : (a b c : ℕ) → 0 < b → 0 < c → a * c % (b * c) ≡ a % b * c
-mul-mod a b c bp cp =
-    ap (λ (z : ℕ). z % (b * c)) (ap (λ (z : ℕ). z * c) (sym (div-add-mod' a b) ∙ add-comm (a / b * b) (a % b)) ∙ add-mul (a % b) (a / b * b) c ∙ ap (λ (z : ℕ). a % b * c + z) (mul-assoc (a / b) b c))
-    ∙ add-mul-mod-self-right (a % b * c) (a / b) (b * c)
-    ∙ mod-eq-of-lt (mul-lt-mul-of-pos-right (mod-lt a bp) cp)
 
 -- q below 2 ^ 53 of a power of two is a value
 exact-at : (s : Bool) (R C q j : ℕ) → 0 < C → q < 2 ^ 53 → j ≤ 1074 → R * 2 ^ 1074 ≡ q * 2 ^ j * C → HasValue (round binary64 s R C) s R C
@@ -76,7 +70,7 @@ module _ (s : Bool) (m : ℕ) (small : m < 2 ^ 53) where
 -- the remainder is the exact one
 pub remainder-exact : (s : Bool) (m : ℕ) (e : ℤ) → T (fits binary64 (fin s m e)) → HasValue (remainder (fin s m e)) s (m * up e * 2 ^ 47 % (turns * 1 * down e)) (down e * 2 ^ 47)
 unfolding remainder rem ofBits
-remainder-exact s m e f = go e (significand-lt binary64 m e (fits-unsigned binary64 s m e f)) (exponent-low binary64 m e (fits-unsigned binary64 s m e f))
+remainder-exact s m e f = go e (fitting binary64 s m e f .small) (fitting binary64 s m e f .deep)
   where
     trim : (k : ℕ) → suc k < 1075 → suc k ≤ 1074
     trim k h = omega arith

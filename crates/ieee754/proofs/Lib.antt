@@ -1,4 +1,4 @@
--- What the proofs of the crate's functions cite, on plain values, and what the crates above cite: the rounding errors.
+-- What the proofs of the crate's functions cite, on plain values, and what the crates above cite: how values are written, and remainders.
 pub mod Patterns
 pub mod Fields
 pub mod IntegerRoot
@@ -11,3 +11,7 @@ pub mod TruncationCases
 pub mod RoundAwayCases
 pub mod ConversionCases
 pub mod WideningCases
+pub mod SameValue
+pub mod SmallRemainder
+pub mod RemainderSteps
+pub mod RemainderRange

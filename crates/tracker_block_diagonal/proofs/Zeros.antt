@@ -14,7 +14,7 @@ use lib.Ieee.Positive.{above}
 use borrow.Author.Tests.{ne-eqb}
 use Rattle.ieee754_rounding.proofs.Opposites.{round-zero, add-zeros, add-to-zero}
 use Rattle.ieee754_rounding.proofs.Commutation.{mul-commutes, add-commutes}
-use Rattle.elementary_fixed_point.proofs.SmallRemainder.{round-own}
+use Rattle.ieee754.proofs.SmallRemainder.{round-own}
 use Rattle.ieee754.specs.Sign.{absolute}
 use Rattle.tracker_block_diagonal.proofs.Finite.{no}
 use Rattle.sequences.proofs.Choices.{cond-no}

@@ -1,2 +1,3 @@
 -- What the proofs of the crate's functions cite, on plain values.
 pub mod Range
+pub mod WrapSteps

@@ -1,29 +1,21 @@
 -- Within the range, from 0 to below its length, Rust's `rem_euclid` changes nothing: the remainder is the number itself and not negative.
 use mathlib.Core.Path.{_≡_, refl, sym, ap, subst, _∙_}
 use mathlib.Core.Bool.{Bool, true, false, cond, _&&_}
-use Prim.Native.Nat.{ℕ, _+_, _*_, _≤_}
-use native.Mathlib.Omega.{arith}
 use lib.Dec.{T}
-use lib.Ieee.{Float, nan, inf, fin, binary64, up, down, add, rem, lt, le, eq, fits, ofBits}
+use lib.Ieee.{Float, binary64, add, rem, lt, le, fits, ofBits}
 use lib.Ieee.Fits.{and-l, and-r}
-use borrow.Author.Tests.{le-ltb}
+use Rattle.ieee754_rounding.proofs.FloatOrder.{lt-not-le}
 use Rattle.ieee754.specs.Sign.{absolute, plusZero}
 use Rattle.ieee754.specs.Remainder.{remEuclid}
-use Rattle.elementary_fixed_point.proofs.SmallRemainder.{minus-zero, small-remainder}
-
-not-above : (a d : ℕ) → 0 * 1 * d ≤ a
-not-above a d = omega arith
-
-no-more : (a d : ℕ) → a ≡ 0 → a * 1 + 0 * 1 * d ≤ 0
-no-more a d z = omega arith
+use Rattle.ieee754.proofs.SmallRemainder.{small-remainder}
 
 not-negative : (x : Float) → T (le (ofBits binary64 0) x) → lt x plusZero ≡ false
-unfolding le lt eq ofBits
-not-negative nan g = refl
-not-negative (inf true) g = absurd g
-not-negative (inf false) g = refl
-not-negative (fin false m e) g = le-ltb _ _ (not-above (m * up e * 1) (down e))
-not-negative (fin true m e) g = le-ltb _ _ (no-more (m * up e) (down e) (minus-zero binary64 m e g))
+unfolding ofBits
+not-negative x g = go (lt x plusZero) refl
+  where
+    go : (b : Bool) → lt x plusZero ≡ b → b ≡ false
+    go true e = absurd (lt-not-le x plusZero (subst T (sym e) tt) g)
+    go false e = refl
 
 pub within-range : (y n : Float) → T (fits binary64 y) → le (ofBits binary64 0) y && lt y n ≡ true → y ≡ remEuclid binary64 y n
 unfolding remEuclid

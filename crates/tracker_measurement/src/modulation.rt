@@ -1,7 +1,5 @@
 // How the signal is modulated, and the range of phases that this leaves.
 ghost use mathlib.Core.Path.{_≡_};
-ghost use lib.Ieee.{binary64};
-ghost use Rattle.ieee754.specs.Remainder.{remEuclid};
 ghost use Rattle.tracker_measurement.specs.Numbers.{modulationNumber};
 ghost use Rattle.tracker_measurement.specs.Phase.{limit, halfLimit, wrapped};
 use ieee754::remainder::rem_euclid;
@@ -45,21 +43,21 @@ fn half_limit_of(m: Modulation) -> f64
     }
 }
 
-// The remainder of y by the range's length. Within the range it is y itself, and the slow `%` is left out.
-fn remainder_within(y: f64, limit: f64) -> f64
-    ensures { λ r. ⌜ r ≡ remEuclid binary64 y limit ⌝ }
-{
-    if (0.0 <= y) & (y < limit) {
-        return y;
-    }
-    rem_euclid(y, limit)
-}
-
-// An angle brought into the range around 0.
+// An angle brought into the range around 0, from minus half to below plus half. Where the sum y lies within the range it is its own remainder, and the slow
+// `%` is left out; so is the test for plus half, since from the largest f64 below the range's length the difference ends below it. Elsewhere a tiny negative
+// remainder can round up to the whole length: then the answer is minus half, the one name of that angle.
 pub fn wrap(m: Modulation, angle: f64) -> f64
     ensures { λ r. ⌜ r ≡ wrapped m angle ⌝ }
 {
     let half = half_limit_of(m);
     let limit = limit_of(m);
-    remainder_within(angle + half, limit) - half
+    let y = angle + half;
+    if (0.0 <= y) & (y < limit) {
+        return y - half;
+    }
+    let r = rem_euclid(y, limit) - half;
+    if half <= r {
+        return -half;
+    }
+    r
 }

@@ -1,12 +1,15 @@
 -- The table of worked values holds, by computation, by what the crates below computed, or by the files beside this one. Assumes nothing.
 use mathlib.Core.Path.{refl}
-use lib.Ieee.{ofBits, ofInt, add, mul, div, lt, eq, isNan, neg, toUnsigned}
+use lib.Ieee.{ofBits, ofInt, add, sub, mul, div, rem, lt, le, eq, isNan, neg, toUnsigned}
 use Rattle.sequences.specs.Pairs.{pairs}
 use Rattle.sequences.specs.Folds.{some}
+use Rattle.ieee754.specs.Sign.{absolute}
+use Rattle.ieee754.specs.Remainder.{remEuclid}
 use Rattle.ieee754.specs.SquareRoot.{sqrt, roundRoot, rootDigits}
 use Rattle.elementary_arctangent.specs.SpecialCases.{special}
 use Rattle.elementary_arctangent.specs.Steps.{atan2Of}
 use Rattle.survey.specs.Survey.{notANumber, clipped, signal, surveyOf}
+use Rattle.tracker_measurement.specs.Phase.{centred, wrapped}
 use Rattle.estimate_snr.proofs.WorkedValues.{none-value, four-value}
 use Rattle.estimate_esprit.proofs.WorkedValues.{nine-value}
 use Rattle.estimate_dispersion.proofs.WorkedValues.{cancel-value}
@@ -16,7 +19,7 @@ use Rattle.worked_values.proofs.PassListed.{pass-list}
 use Rattle.worked_values.specs.Table.{WorkedValues}
 
 pub worked-values : WorkedValues
-unfolding badRate whole decimatedRate sqrt roundRoot rootDigits atan2Of special surveyOf notANumber clipped signal pairs some ofBits ofInt add mul div lt eq isNan neg toUnsigned
+unfolding badRate whole decimatedRate sqrt roundRoot rootDigits atan2Of special surveyOf notANumber clipped signal wrapped centred remEuclid absolute pairs some ofBits ofInt add sub mul div rem lt le eq isNan neg toUnsigned
 worked-values =
     record {
       rate-999 = λ s f r. refused-rate s (record { factor-is = f; rate-is = r }) refl;
@@ -37,5 +40,14 @@ worked-values =
       snr-none = none-value;
       estimate-nine = nine-value;
       cancel-two-one = cancel-value;
+      wrap-carrier = refl;
+      wrap-bpsk = refl;
+      wrap-qpsk = refl;
+      wrap-nearer = refl;
+      wrap-nearer-bpsk = refl;
+      wrap-nearer-qpsk = refl;
+      wrap-farther = refl;
+      wrap-farther-bpsk = refl;
+      wrap-farther-qpsk = refl;
       pass-list = pass-list;
     }

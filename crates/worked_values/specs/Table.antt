@@ -1,5 +1,5 @@
--- "Values on both sides", those marked P, and the example of "The pass text and its list": one table, which proofs/Proved.antt proves of the
--- definitions. Definitions only.
+-- "Values on both sides", those marked P, the example of "The pass text and its list", and the angles of the request for one name for half a turn: one
+-- table, which proofs/Proved.antt proves of the definitions. Definitions only.
 use Prim.Native.Nat.{_≤_}
 use mathlib.Core.Path.{_≡_}
 use mathlib.Core.Bool.{Bool, true}
@@ -12,6 +12,8 @@ use Rattle.sequences.specs.Pairs.{pairs}
 use Rattle.ieee754.specs.SquareRoot.{sqrt}
 use Rattle.elementary_arctangent.specs.Steps.{atan2Of}
 use Rattle.survey.specs.Survey.{surveyOf}
+use Rattle.tracker_measurement.specs.declared.modulation.Modulation.the-variants.{Carrier, Bpsk, Qpsk}
+use Rattle.tracker_measurement.specs.Phase.{wrapped}
 use Rattle.estimate_snr.specs.MomentEstimate.{snrOf}
 use Rattle.estimate_correlation.specs.Correlation.{prepared}
 use Rattle.estimate_esprit.specs.Esprit.{estimate}
@@ -55,5 +57,17 @@ pub record WorkedValues : Type 0 where
   pub estimate-nine : (samples : List Float) (squared : Bool) (rate : Float) → length samples ≡ 18 → estimate (prepared squared samples) rate ≡ float.zero
   -- cancel with f1 2, f2 1, offsets 3 and 0 gives 4
   pub cancel-two-one : dispersionFree float.two float.one float.three float.zero ≡ float.four
+  -- -3.1415926535897936 wraps to minus half a turn, and -0.7853981633974484 of QPSK to minus an eighth, where the source's steps end at plus half
+  pub wrap-carrier : wrapped Carrier (ofBits binary64 0xc009_21fb_5444_2d19) ≡ neg float.pi
+  pub wrap-bpsk : wrapped Bpsk (ofBits binary64 0xc009_21fb_5444_2d19) ≡ neg float.pi
+  pub wrap-qpsk : wrapped Qpsk (ofBits binary64 0xbfe9_21fb_5444_2d19) ≡ neg float.quarterPi
+  -- the neighbour on one side is minus half itself and stays
+  pub wrap-nearer : wrapped Carrier (neg float.pi) ≡ neg float.pi
+  pub wrap-nearer-bpsk : wrapped Bpsk (neg float.pi) ≡ neg float.pi
+  pub wrap-nearer-qpsk : wrapped Qpsk (neg float.quarterPi) ≡ neg float.quarterPi
+  -- the neighbour on the other side wraps to 3.1415926535897922 and 0.7853981633974481, the second f64 below plus half
+  pub wrap-farther : wrapped Carrier (ofBits binary64 0xc009_21fb_5444_2d1a) ≡ ofBits binary64 0x4009_21fb_5444_2d16
+  pub wrap-farther-bpsk : wrapped Bpsk (ofBits binary64 0xc009_21fb_5444_2d1a) ≡ ofBits binary64 0x4009_21fb_5444_2d16
+  pub wrap-farther-qpsk : wrapped Qpsk (ofBits binary64 0xbfe9_21fb_5444_2d1a) ≡ ofBits binary64 0x3fe9_21fb_5444_2d16
   -- the list of the pass text's example
   pub pass-list : listOf passText ≡ passList

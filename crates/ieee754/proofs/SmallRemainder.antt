@@ -2,45 +2,47 @@
 use mathlib.Core.Path.{_≡_, refl, sym, ap, subst, _∙_}
 use mathlib.Core.Bool.{Bool, true, false, cond, _||_}
 use Prim.Native.Nat.{ℕ, _+_, _*_, _%_, _^_, _<_}
-use native.Mathlib.Nat.{not-suc-le-zero, mul-assoc, mul-comm, mul-one, zero-mul, mul-pos, mod-eq-of-lt}
+use native.Mathlib.Nat.{mul-assoc, mul-comm, mul-one, zero-mul, mul-pos, mod-eq-of-lt}
 use native.Mathlib.Omega.{arith}
 use lib.IntN.{ℤ}
 use lib.Dec.{T, eqb, ltb→lt, eqb→eq}
 use lib.Ieee.{Float, nan, inf, fin, Format, low, up, down, round, rem, lt, le, eq, fits, ofBits}
 use lib.Ieee.Fits.{down-pos, round-fits, and-l}
-use lib.Ieee.Exact.{round-exact}
 use lib.Ieee.Scale.{round-same}
+use lib.Ieee.Positive.{first-pos}
 use Rattle.ieee754.specs.Sign.{plusZero}
-use Rattle.elementary_fixed_point.proofs.PowerOfTwo.{below-top, significand-lt, exponent, under-top}
-use Rattle.elementary_fixed_point.proofs.SameValue.{fits-unsigned, same-value}
+use Rattle.ieee754_rounding.proofs.FormatValues.{own-value}
+use Rattle.ieee754.proofs.SameValue.{same-value}
 
 -- a value of the format rounds to itself
 pub round-own : (f : Format) (s : Bool) (m : ℕ) (e : ℤ) → T (fits f (fin s m e)) → fin s m e ≡ round f s (m * up e) (down e)
 round-own f s m e h =
-    let u = fits-unsigned f s m e h in
-    let j : ℕ = exponent f m e u 0 .0 in
-    let is : m * up e * 2 ^ low f ≡ m * 2 ^ j * down e = ap (λ (z : ℕ). z * 2 ^ low f) (sym (mul-one (m * up e))) ∙ exponent f m e u 0 .1 ∙ ap (λ (z : ℕ). m * 2 ^ j * z) (mul-one (down e)) in
-    same-value f (fin s m e) (round f s (m * up e) (down e)) s (m * up e) (down e) (down-pos e) h (round-fits f s (m * up e) (down e)) (refl, refl)
-    (round-exact f s (m * up e) (down e) m j (down-pos e) (significand-lt f m e u) (under-top f (m * 2 ^ j) (m * up e) (down e) (sym is) (below-top f m e u)) is)
+    same-value f (fin s m e) (round f s (m * up e) (down e)) s (m * up e) (down e) (down-pos e) h (round-fits f s (m * up e) (down e)) (refl, refl) (own-value f s m e h)
+
+-- where the divisor is not 0
+pub rem-is : (f : Format) (s t : Bool) (m n : ℕ) (e d : ℤ) → 0 < n
+    → rem f (fin s m e) (fin t n d) ≡ round f s (m * up e * down d % (n * up d * down e)) (down e * down d)
+unfolding rem
+rem-is f s t m n e d h = divides (eqb n 0) (round f s (m * up e * down d % (n * up d * down e)) (down e * down d)) (eqb→eq n 0)
+  where
+    no-zero : (n : ℕ) → 0 < n → n ≡ 0 → ⊥
+    no-zero n h e = omega arith
+
+    divides : (b : Bool) (x : Float) → (T b → n ≡ 0) → cond b nan x ≡ x
+    divides true x k = absurd (no-zero n h (k tt))
+    divides false x k = refl
 
 -- where |x| < |y|
 pub rem-below : (f : Format) (s t : Bool) (m n : ℕ) (e d : ℤ) → T (fits f (fin s m e)) → m * up e * down d < n * up d * down e → fin s m e ≡ rem f (fin s m e) (fin t n d)
-unfolding rem
 rem-below f s t m n e d p h =
     round-own f s m e p
     ∙ round-same f s (m * up e) (down e) (m * up e * down d) (down e * down d) (down-pos e) (mul-pos (down-pos e) (down-pos d))
     (ap (λ (z : ℕ). m * up e * z) (mul-comm (down e) (down d)) ∙ sym (mul-assoc (m * up e) (down d) (down e)))
     ∙ ap (λ (z : ℕ). round f s z (down e * down d)) (sym (mod-eq-of-lt h))
-    ∙ divides (eqb n 0) (round f s (m * up e * down d % (n * up d * down e)) (down e * down d)) (eqb→eq n 0)
+    ∙ sym (rem-is f s t m n e d (first-pos n (up d) (first-pos (n * up d) (down e) (some (m * up e * down d) (n * up d * down e) h))))
   where
-    not-zero : n ≡ 0 → ⊥
-    not-zero z =
-        not-suc-le-zero
-        (subst (λ (a : ℕ). m * up e * down d < a) (ap (λ (a : ℕ). a * up d * down e) z ∙ ap (λ (a : ℕ). a * down e) (zero-mul (up d)) ∙ zero-mul (down e)) h)
-
-    divides : (b : Bool) (x : Float) → (T b → n ≡ 0) → x ≡ cond b nan x
-    divides true x k = absurd (not-zero (k tt))
-    divides false x k = refl
+    some : (a b : ℕ) → a < b → 0 < b
+    some a b h = omega arith
 
 zero-is : (f : Format) → ofBits f 0 ≡ plusZero
 unfolding ofBits
