@@ -41,7 +41,7 @@ extern "C" {
 #endif
 
 /* It goes up by one with each change of a struct, of a function, or of what a call answers. */
-#define GIBSUMAC_VERSION 1
+#define GIBSUMAC_VERSION 2
 
 /* The most pairs (re, im) of a list, the floats of such a list, and the doubles of a channel's window memory. */
 #define GIBSUMAC_MAX_PAIRS 4096
@@ -146,9 +146,10 @@ typedef struct {
     bool in_fade;        /* the tracker in use coasts */
     uint64_t fade_count; /* how many blocks the fade has lasted; kept after it until the next lock */
     bool ended;          /* a fade ran out of its allowance in this pass; it stays set, also when locked again, until release */
-    /* Of the last block that showed any, where this one is not locked; so use them where locked is 1. phase: radians at the block's last sample, within
-     * -pi to pi for a carrier, half of it for BPSK, a quarter for QPSK; in a fade it runs on, unwrapped. frequency: Hz; where a flag 1 block without a bank is
-     * not locked it is nominal or target itself. */
+    /* Of the last block that showed any, where this one is not locked; so use them where locked is 1. phase: radians at the block's last sample, from -pi,
+     * included, to pi, excluded, for a carrier, half of it for BPSK, a quarter for QPSK; so half a turn has one name, the negative one. With two frequencies
+     * the second carrier's correction comes after the wrap and can move it past an end; in a fade it runs on, unwrapped. frequency: Hz; where a flag 1 block
+     * without a bank is not locked it is nominal or target itself. */
     double phase, frequency;
     double snr;       /* dB, of this block's samples alone, -20 to 40 (0, 0.5 and -5 for flags 2, 3 and 4) */
     double electrons; /* electron content in 10^16 for each square metre, from the two phases, so up to whole turns; 0 on one frequency */

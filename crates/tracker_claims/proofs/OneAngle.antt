@@ -2,7 +2,7 @@
 -- the remainder is negative and nearer to 0 than the length's last place, so it is the sum itself; and only one angle has such a sum. Assumes nothing.
 use mathlib.Core.Path.{_≡_, refl, sym, ap, subst, _∙_}
 use mathlib.Core.Bool.{Bool, true, false, not, cond}
-use Prim.Native.Nat.{_+_}
+use Prim.Native.Nat.{_+_, _-_}
 use lib.Dec.{T, lit<, not-T}
 use lib.Ieee.{Float, nan, inf, fin, binary64, neg, lt, le, eq, isNan, add, sub, rem, fits, ofBits}
 use lib.Ieee.Bits.{is-true}
@@ -23,15 +23,15 @@ use Rattle.tracker_measurement.specs.declared.modulation.Modulation.the-variant
 use Rattle.tracker_measurement.specs.Phase.{limit, halfLimit, centred, wrapped}
 use Rattle.tracker_claims.specs.WrappedPhase.{nextBelow, OneAngle}
 use Rattle.tracker_measurement.proofs.WrapSteps.{digits, places, before, lengths, stays-below}
-use Rattle.tracker_claims.proofs.RangeNumbers.{halfPlaces, lastPlace, secondBelow, numbers}
+use Rattle.tracker_claims.proofs.RangeNumbers.{lastPlace, secondBelow, numbers}
 use Rattle.tracker_claims.proofs.WrappedPhase.{nan-steps, unordered}
 
 -- ---- the f64s just above half the range
 first-up : (m : Modulation) (x : Float) → T (fits binary64 x) → T (lt x (neg (nextBelow m))) → T (le x (halfLimit m))
-first-up m x t h = before-next binary64 x (neg (nextBelow m)) (halfLimit m) (digits + 1) (halfPlaces m) t (lit< tt) (numbers m .next-counts) (numbers m .half-counts) h
+first-up m x t h = before-next binary64 x (neg (nextBelow m)) (halfLimit m) (digits + 1) (places m - 1) t (lit< tt) (numbers m .next-counts) (numbers m .half-counts) h
 
 second-up : (m : Modulation) (x : Float) → T (fits binary64 x) → T (lt x (neg (secondBelow m))) → T (le x (neg (nextBelow m)))
-second-up m x t h = before-next binary64 x (neg (secondBelow m)) (neg (nextBelow m)) (digits + 2) (halfPlaces m) t (lit< tt) (numbers m .second-counts) (numbers m .next-counts) h
+second-up m x t h = before-next binary64 x (neg (secondBelow m)) (neg (nextBelow m)) (digits + 2) (places m - 1) t (lit< tt) (numbers m .second-counts) (numbers m .next-counts) h
 
 -- ---- a sum y whose steps end at plus half or above lies between a last place below 0 and 0
 module _ (m : Modulation) (y : Float) (t : T (fits binary64 y)) (p : T (finite y)) (ends : T (le (halfLimit m) (sub binary64 (remEuclid binary64 y (limit m)) (halfLimit m)))) where
@@ -47,13 +47,13 @@ module _ (m : Modulation) (y : Float) (t : T (fits binary64 y)) (p : T (finite y
 
   reaches : T (le (limit m) whole)
   reaches =
-      le-of-not-lt whole (limit m) (right-number plusZero whole (rem-euclid-from-zero binary64 y (limit m) p (numbers m .limit-positive) (numbers m .limit-fits))) (numbers m .limit-number)
+      le-of-not-lt whole (limit m) (right-number plusZero whole (rem-euclid-from-zero binary64 y (limit m) p (numbers m .length-positive) (numbers m .length-fits))) (numbers m .length-number)
       (not-T (lt whole (limit m)) (λ (h : T (lt whole (limit m))). subst T (stays-below m whole whole-fits h) ends))
 
   -- the remainder alone does not reach the length
   negative : (b : Bool) → lt r plusZero ≡ b → T (le (limit m) (cond b (add binary64 r (absolute (limit m))) r)) → b ≡ true
   negative true e h = refl
-  negative false e h = absurd (lt-not-le r (limit m) (remainder-below binary64 y (limit m) digits (places m) t p (numbers m .limit-digits)) h)
+  negative false e h = absurd (lt-not-le r (limit m) (remainder-below binary64 y (limit m) digits (places m) t p (numbers m .length-digits)) h)
 
   is-negative : lt r plusZero ≡ true
   unfolding remEuclid
@@ -62,7 +62,7 @@ module _ (m : Modulation) (y : Float) (t : T (fits binary64 y)) (p : T (finite y
   sum-reaches : T (le (limit m) (add binary64 r (limit m)))
   unfolding remEuclid
   sum-reaches =
-      subst (λ (z : Float). T (le (limit m) (add binary64 r z))) (numbers m .limit-size)
+      subst (λ (z : Float). T (le (limit m) (add binary64 r z))) (numbers m .length-size)
       (subst (λ (b : Bool). T (le (limit m) (cond b (add binary64 r (absolute (limit m))) r))) is-negative reaches)
 
   -- nor does it with the length, where it is a last place below 0 or more
@@ -71,12 +71,12 @@ module _ (m : Modulation) (y : Float) (t : T (fits binary64 y)) (p : T (finite y
     where
       far : T (le r (neg (lastPlace m))) → ⊥
       far h =
-          subst T (numbers m .limit-exceeds)
+          subst T (numbers m .length-exceeds)
           (le-trans (limit m) (add binary64 r (limit m)) (before m) sum-reaches
-          (subst (λ (z : Float). T (le (add binary64 r (limit m)) z)) (numbers m .one-less) (add-mono binary64 r (neg (lastPlace m)) (limit m) (positive-finite (limit m) (numbers m .limit-positive)) h)))
+          (subst (λ (z : Float). T (le (add binary64 r (limit m)) z)) (numbers m .one-less) (add-mono binary64 r (neg (lastPlace m)) (limit m) (positive-finite (limit m) (numbers m .length-positive)) h)))
 
   own : y ≡ r
-  own = tiny-remainder binary64 y (limit m) (lastPlace m) digits (places m) t p (numbers m .limit-digits) (numbers m .place-value) (subst T (sym is-negative) tt) near
+  own = tiny-remainder binary64 y (limit m) (lastPlace m) digits (places m) t p (numbers m .length-digits) (numbers m .place-value) (subst T (sym is-negative) tt) near
 
   sum-near : T (lt (neg (lastPlace m)) y)
   sum-near = subst (λ (z : Float). T (lt (neg (lastPlace m)) z)) (sym own) near

@@ -1,7 +1,7 @@
 -- The numbers of each modulation's range, by computation: half the range, its length, the f64s next to them, and what sums of these are. Assumes nothing.
 use mathlib.Core.Path.{_≡_, refl}
 use mathlib.Core.Bool.{Bool, true, false, not}
-use Prim.Native.Nat.{ℕ, _+_, _^_}
+use Prim.Native.Nat.{ℕ, _+_, _-_, _^_}
 use lib.Dec.{T, lit<, lit≤}
 use lib.Ieee.{Float, binary64, neg, lt, le, eq, isNan, add, sub, low, fits, ofBits}
 use lib.Ieee.Exact.{HasValue}
@@ -14,12 +14,7 @@ use Rattle.tracker_measurement.specs.declared.modulation.Modulation.{Modulation
 use Rattle.tracker_measurement.specs.declared.modulation.Modulation.the-variants.{Carrier, Bpsk, Qpsk}
 use Rattle.tracker_measurement.specs.Phase.{limit, halfLimit}
 use Rattle.tracker_measurement.proofs.WrapSteps.{digits, places, before, Counts}
-use Rattle.tracker_claims.specs.WrappedPhase.{InRange, nextBelow}
-
-abbrev pub halfPlaces : Modulation → ℕ
-halfPlaces Carrier = 1023
-halfPlaces Bpsk = 1023
-halfPlaces Qpsk = 1021
+use Rattle.tracker_claims.specs.WrappedPhase.{nextBelow}
 
 -- the length's last place: 2 ^ -50, and 2 ^ -52 for QPSK
 abbrev pub lastPlace : Modulation → Float
@@ -33,53 +28,56 @@ secondBelow Carrier = ofBits binary64 0xc009_21fb_5444_2d1a
 secondBelow Bpsk = ofBits binary64 0xc009_21fb_5444_2d1a
 secondBelow Qpsk = ofBits binary64 0xbfe9_21fb_5444_2d1a
 
-pub record Numbers (m : Modulation) : Type 0 where
-  -- the length, and half
-  pub limit-positive : T (positive (limit m))
-  pub limit-fits : T (fits binary64 (limit m))
-  pub limit-number : T (not (isNan (limit m)))
-  pub limit-size : absolute (limit m) ≡ limit m
-  pub limit-digits : Digits binary64 (limit m) digits (places m)
-  pub half-number : T (not (isNan (halfLimit m)))
-  pub half-counts : Counts (halfLimit m) digits (halfPlaces m)
-  pub minus-half : InRange m (neg (halfLimit m))
-  pub from-zero : sub binary64 plusZero (halfLimit m) ≡ neg (halfLimit m)
+-- of a range whose length is `digits` of 2 ^ i units, and half of it as many of half the size
+pub record Numbers (half length prior next second place : Float) (i : ℕ) : Type 0 where
+  pub length-positive : T (positive length)
+  pub length-fits : T (fits binary64 length)
+  pub length-number : T (not (isNan length))
+  pub length-size : absolute length ≡ length
+  pub length-digits : Digits binary64 length digits i
+  pub half-number : T (not (isNan half))
+  pub half-counts : Counts half digits (i - 1)
+  pub minus-half : T (lt (neg half) half)
+  pub from-zero : sub binary64 plusZero half ≡ neg half
   -- half added to the largest f64 and to its opposite
-  pub top-finite : T (finite (add binary64 (largest binary64) (halfLimit m)))
-  pub bottom-finite : T (finite (add binary64 (neg (largest binary64)) (halfLimit m)))
+  pub top-finite : T (finite (add binary64 (largest binary64) half))
+  pub bottom-finite : T (finite (add binary64 (neg (largest binary64)) half))
   -- a last place less than the length is the f64 before it, which is below it
-  pub place-value : HasValue (lastPlace m) false (2 ^ places m) (2 ^ low binary64)
-  pub place-number : T (not (isNan (neg (lastPlace m))))
-  pub one-less : add binary64 (neg (lastPlace m)) (limit m) ≡ before m
-  pub limit-exceeds : le (limit m) (before m) ≡ false
-  -- the two f64s below minus half, in size; of the second the sum is a last place below 0
-  pub next-counts : Counts (neg (nextBelow m)) (digits + 1) (halfPlaces m)
-  pub next-number : T (not (isNan (neg (nextBelow m))))
-  pub next-positive : T (positive (neg (nextBelow m)))
-  pub next-fits : T (fits binary64 (neg (nextBelow m)))
-  pub second-counts : Counts (neg (secondBelow m)) (digits + 2) (halfPlaces m)
-  pub second-number : T (not (isNan (neg (secondBelow m))))
-  pub second-sum : add binary64 (secondBelow m) (halfLimit m) ≡ neg (lastPlace m)
+  pub place-value : HasValue place false (2 ^ i) (2 ^ low binary64)
+  pub place-number : T (not (isNan (neg place)))
+  pub one-less : add binary64 (neg place) length ≡ prior
+  pub length-exceeds : le length prior ≡ false
+  -- the two f64s below minus half, in size; of the second the sum with half is a last place below 0
+  pub next-counts : Counts (neg next) (digits + 1) (i - 1)
+  pub next-number : T (not (isNan (neg next)))
+  pub next-positive : T (positive (neg next))
+  pub next-fits : T (fits binary64 (neg next))
+  pub second-counts : Counts (neg second) (digits + 2) (i - 1)
+  pub second-number : T (not (isNan (neg second)))
+  pub second-sum : add binary64 second half ≡ neg place
 
-pub numbers : (m : Modulation) → Numbers m
+abbrev pub NumbersOf : Modulation → Type 0
+NumbersOf m = Numbers (halfLimit m) (limit m) (before m) (nextBelow m) (secondBelow m) (lastPlace m) (places m)
+
+whole-turn : NumbersOf Carrier
 unfolding ofBits add sub neg le lt eq isNan fits absolute
-numbers Carrier =
+whole-turn =
     record {
-      limit-positive = tt;
-      limit-fits = tt;
-      limit-number = tt;
-      limit-size = refl;
-      limit-digits = record { value = (refl, refl); full = lit≤ tt; short = lit< tt };
+      length-positive = tt;
+      length-fits = tt;
+      length-number = tt;
+      length-size = refl;
+      length-digits = record { value = (refl, refl); full = lit≤ tt; short = lit< tt };
       half-number = tt;
       half-counts = (refl, refl);
-      minus-half = record { low = tt; high = tt };
+      minus-half = tt;
       from-zero = refl;
       top-finite = tt;
       bottom-finite = tt;
       place-value = (refl, refl);
       place-number = tt;
       one-less = refl;
-      limit-exceeds = refl;
+      length-exceeds = refl;
       next-counts = (refl, refl);
       next-number = tt;
       next-positive = tt;
@@ -88,23 +86,26 @@ numbers Carrier =
       second-number = tt;
       second-sum = refl;
     }
-numbers Bpsk =
+
+quarter-turn : NumbersOf Qpsk
+unfolding ofBits add sub neg le lt eq isNan fits absolute
+quarter-turn =
     record {
-      limit-positive = tt;
-      limit-fits = tt;
-      limit-number = tt;
-      limit-size = refl;
-      limit-digits = record { value = (refl, refl); full = lit≤ tt; short = lit< tt };
+      length-positive = tt;
+      length-fits = tt;
+      length-number = tt;
+      length-size = refl;
+      length-digits = record { value = (refl, refl); full = lit≤ tt; short = lit< tt };
       half-number = tt;
       half-counts = (refl, refl);
-      minus-half = record { low = tt; high = tt };
+      minus-half = tt;
       from-zero = refl;
       top-finite = tt;
       bottom-finite = tt;
       place-value = (refl, refl);
       place-number = tt;
       one-less = refl;
-      limit-exceeds = refl;
+      length-exceeds = refl;
       next-counts = (refl, refl);
       next-number = tt;
       next-positive = tt;
@@ -113,28 +114,8 @@ numbers Bpsk =
       second-number = tt;
       second-sum = refl;
     }
-numbers Qpsk =
-    record {
-      limit-positive = tt;
-      limit-fits = tt;
-      limit-number = tt;
-      limit-size = refl;
-      limit-digits = record { value = (refl, refl); full = lit≤ tt; short = lit< tt };
-      half-number = tt;
-      half-counts = (refl, refl);
-      minus-half = record { low = tt; high = tt };
-      from-zero = refl;
-      top-finite = tt;
-      bottom-finite = tt;
-      place-value = (refl, refl);
-      place-number = tt;
-      one-less = refl;
-      limit-exceeds = refl;
-      next-counts = (refl, refl);
-      next-number = tt;
-      next-positive = tt;
-      next-fits = tt;
-      second-counts = (refl, refl);
-      second-number = tt;
-      second-sum = refl;
-    }
+
+pub numbers : (m : Modulation) → NumbersOf m
+numbers Carrier = whole-turn
+numbers Bpsk = whole-turn
+numbers Qpsk = quarter-turn

@@ -4,7 +4,7 @@ use mathlib.Core.Bool.{Bool, true, false, not, cond}
 use lib.Dec.{T}
 use lib.Ieee.{Float, nan, inf, fin, binary64, neg, lt, le, eq, isNan, add, sub, rem, fits}
 use lib.Ieee.Scale.{finite}
-use Rattle.ieee754_rounding.proofs.FloatOrder.{lt-of-not-le, between-finite, right-number}
+use Rattle.ieee754_rounding.proofs.FloatOrder.{le-refl, lt-le, lt-of-not-le, between-finite, left-number, right-number}
 use Rattle.ieee754_rounding.proofs.MonotoneSums.{add-mono, sub-mono}
 use Rattle.ieee754_rounding.proofs.FormatValues.{largest, at-most-largest, at-least-largest}
 use Rattle.ieee754.specs.Sign.{plusZero}
@@ -30,13 +30,13 @@ steps m y = sub binary64 (remEuclid binary64 y (limit m)) (halfLimit m)
 steps-from : (m : Modulation) (y : Float) → T (finite y) → T (le (neg (halfLimit m)) (steps m y))
 steps-from m y p =
     subst (λ (z : Float). T (le z (steps m y))) (numbers m .from-zero)
-    (sub-mono binary64 plusZero (remEuclid binary64 y (limit m)) (halfLimit m) (lengths m .half-finite) (rem-euclid-from-zero binary64 y (limit m) p (numbers m .limit-positive) (numbers m .limit-fits)))
+    (sub-mono binary64 plusZero (remEuclid binary64 y (limit m)) (halfLimit m) (lengths m .half-finite) (rem-euclid-from-zero binary64 y (limit m) p (numbers m .length-positive) (numbers m .length-fits)))
 
 renamed : (m : Modulation) (x : Float) → T (le (neg (halfLimit m)) x) → InRange m (cond (le (halfLimit m) x) (neg (halfLimit m)) x)
 renamed m x h = go (le (halfLimit m) x) refl
   where
     go : (b : Bool) → le (halfLimit m) x ≡ b → InRange m (cond b (neg (halfLimit m)) x)
-    go true e = numbers m .minus-half
+    go true e = record { low = le-refl (neg (halfLimit m)) (left-number (neg (halfLimit m)) (halfLimit m) (lt-le (neg (halfLimit m)) (halfLimit m) (numbers m .minus-half))); high = numbers m .minus-half }
     go false e =
         record {
           low = h;
