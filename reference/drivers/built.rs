@@ -2,6 +2,9 @@
 //! Each is given a few blocks, in the reference and in the port, and all that they answer and leave is compared bit for bit.
 //!
 //!     built [--build exported|counted] [--seed N] [--count N] [--longest PAIRS] [--words 1] [--ruled 1]
+//!     built --ends 1 [--build exported|counted] [--words 1]
+//!
+//! With `--ends 1` the channels are others: their trackers stand still at an end of the phase's range or beside it, and a block of one pair wraps it.
 //!
 //! With `--words 1`, or `--ruled 1` if the blocks' lists are to be told by rules, the port is left out, and the channels, the blocks and what the reference answers are written as words, for
 //! crates/channel_vectors (README.md has their form). The window memory is then filled by a rule, so that it need not be written.
@@ -113,6 +116,52 @@ fn channel(r: &mut Random, reference: Reference) -> Built {
     }
 }
 
+/// A tracker that stands still at a phase: it has no frequency, and beside such an envelope a sample counts for next to nothing.
+fn still(start: &Tracker, phase: f64) -> Tracker {
+    let mut t = *start;
+    t.x = [phase, 0.0, 0.0, phase, 0.0, 0.0];
+    (t.envelope, t.guard, t.locked) = (1e9, 2_048, 1);
+    t
+}
+
+/// A locked channel of such trackers.
+fn still_channel(reference: Reference, modulation: u32, bank: u32, two: u32, phase: f64) -> Built {
+    let t = still(&reference.tracker(40_000.0, modulation as u64), phase);
+    Built {
+        rate: 40_000,
+        factor: 1,
+        modulation,
+        bank,
+        two,
+        assigned: 1,
+        nominal: 137.5e6,
+        target: 137.5e6,
+        target2: 400e6,
+        frequency2: 400e6,
+        locked: 1,
+        ever_locked: 1,
+        last_snr: 0.0,
+        tracker: 0,
+        in_fade: 0,
+        ended: 0,
+        fade_count: 0,
+        fade_steps: 5,
+        phase: 0.0,
+        frequency: 137.5e6,
+        snr: 0.0,
+        electrons: 0.0,
+        pll: t,
+        trackers: [t; 3],
+    }
+}
+
+/// Half the phase's range of each modulation, and a sample at minus half of it.
+const ENDS: [(f64, [f32; 2]); 3] = [
+    (std::f64::consts::PI, [-1.0, 0.0]),
+    (std::f64::consts::PI, [0.0, 1.0]),
+    (std::f64::consts::FRAC_PI_4, [1.0, -1.0]),
+];
+
 /// Window memory for a run with the port: any numbers.
 fn any_window(r: &mut Random, odd: bool) -> Vec<f64> {
     (0..MEMORY).map(|_| if odd { built(r, 1.0) } else { r.unit() }).collect()
@@ -189,6 +238,21 @@ impl Run {
         Beside::build(self.reference, !self.as_words, b, &mut self.tally)
     }
 
+    /// Each modulation, with and without a bank, on one frequency and on two, at the phase next below minus half and at its two neighbours.
+    fn ends(&mut self) {
+        for (n, modulation) in (0..12).flat_map(|n| [(n, 0), (n, 1), (n, 2)]) {
+            let (half, sample) = ENDS[modulation as usize];
+            let below = (-half).next_down();
+            let phase = [below, -half, below.next_down()][n as usize % 3];
+            let b = still_channel(self.reference, modulation, n / 3 % 2, n / 6, phase);
+            let mut r = Random::new(n as u64);
+            let mut window = if self.as_words { told_window(&mut r, false, &b) } else { any_window(&mut r, false) };
+            let mut both = self.build(&b);
+            let mut second = if b.two != 0 { sample.to_vec() } else { Vec::new() };
+            self.block(&mut both, 1, &mut sample.to_vec(), &mut second, &mut window);
+        }
+    }
+
     /// One channel with its blocks.
     fn one(&mut self, seed: u64) {
         let mut r = Random::new(seed);
@@ -230,8 +294,10 @@ fn main() {
     let by_rule = words.number("--ruled", 0) != 0;
     let as_words = by_rule || words.number("--words", 0) != 0;
     let mut run = Run { reference, as_words, by_rule, longest, tally: Tally::default() };
-    for seed in seed..seed + count {
-        run.one(seed);
+    if words.number("--ends", 0) != 0 {
+        run.ends();
+    } else {
+        (seed..seed + count).for_each(|seed| run.one(seed));
     }
     reference.counts();
     if !as_words {
