@@ -1,8 +1,8 @@
 -- The remainder by the f64 nearest 2π is exact, within a turn it is the angle itself, and it changes its sign with the angle.
 use mathlib.Core.Path.{_≡_, refl, sym, ap, _∙_}
 use mathlib.Core.Bool.{Bool, true, false, not}
-use Prim.Native.Nat.{ℕ, suc, _+_, _-_, _*_, _/_, _%_, _^_, _≤_, _<_}
-use native.Mathlib.Nat.{le-trans, le-of-eq, le-of-lt, lt-of-le-of-lt, lt-of-lt-of-le, lt-of-not-le, not-le-of-lt, mul-assoc, mul-comm, mul-left-comm, mul-right-comm, mul-one, mul-pos, mul-le-mul-right, mul-lt-mul-of-pos-right, mod-lt, mod-le, mod-eq-of-lt, div-add-mod', add-mul, add-comm, add-mul-mod-self-right}
+use Prim.Native.Nat.{ℕ, suc, _+_, _-_, _*_, _%_, _^_, _≤_, _<_}
+use native.Mathlib.Nat.{le-trans, le-of-eq, le-of-lt, lt-of-le-of-lt, lt-of-lt-of-le, lt-of-not-le, not-le-of-lt, mul-assoc, mul-comm, mul-left-comm, mul-right-comm, mul-one, mul-pos, mul-le-mul-right, mul-lt-mul-of-pos-right, mod-lt, mod-le}
 use native.Mathlib.Omega.{arith}
 use lib.IntN.{ℤ, pos, negsuc}
 use lib.Dec.{T, leb, ltb→lt, leb→le, nleb→lt, lit<, lit≤}

@@ -1,12 +1,12 @@
 -- The remainder of a number by one that is larger in size is that number, so a function may leave `%` out there. For any format. Assumes nothing.
 use mathlib.Core.Path.{_≡_, refl, sym, ap, subst, _∙_}
 use mathlib.Core.Bool.{Bool, true, false, cond, _||_}
-use Prim.Native.Nat.{ℕ, _+_, _*_, _%_, _^_, _<_}
+use Prim.Native.Nat.{ℕ, _+_, _*_, _%_, _<_}
 use native.Mathlib.Nat.{mul-assoc, mul-comm, mul-one, zero-mul, mul-pos, mod-eq-of-lt}
 use native.Mathlib.Omega.{arith}
 use lib.IntN.{ℤ}
 use lib.Dec.{T, eqb, ltb→lt, eqb→eq}
-use lib.Ieee.{Float, nan, inf, fin, Format, low, up, down, round, rem, lt, le, eq, fits, ofBits}
+use lib.Ieee.{Float, nan, inf, fin, Format, up, down, round, rem, lt, le, eq, fits, ofBits}
 use lib.Ieee.Fits.{down-pos, round-fits, and-l}
 use lib.Ieee.Scale.{round-same}
 use lib.Ieee.Positive.{first-pos}
@@ -56,9 +56,6 @@ minus-is-zero m e g =
     sym (mul-one (m * up e))
     ∙ sym (eqb→eq (0 * 1 * down e) (m * up e * 1) (and-l (eqb (0 * 1 * down e) (m * up e * 1)) (false || eqb (0 * 1 * down e) 0) g))
     ∙ zero-mul (down e)
-
-pub minus-zero : (f : Format) (m : ℕ) (e : ℤ) → T (le (ofBits f 0) (fin true m e)) → m * up e ≡ 0
-minus-zero f m e g = minus-is-zero m e (subst (λ (z : Float). T (le z (fin true m e))) (zero-is f) g)
 
 above : (a b : ℕ) → a ≡ 0 → 0 < a + b → a < b
 above a b z h = omega arith

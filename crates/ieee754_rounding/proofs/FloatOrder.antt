@@ -1,10 +1,10 @@
 -- The order of floats, `le`: any two that are no NaN are ordered, it is transitive, and turning both signs turns it. A finite value is taken
 -- apart into what it has above zero and what it has below. The same at every format. Assumes nothing.
-use mathlib.Core.Path.{_≡_, refl, sym, ap, subst}
+use mathlib.Core.Path.{_≡_, refl, sym, subst}
 use mathlib.Core.Logic.{_⊎_, inl, inr}
 use mathlib.Core.Bool.{Bool, true, false, not, _&&_, _||_, cond}
 use Prim.Native.Nat.{ℕ, _+_, _*_, _≤_, _<_}
-use native.Mathlib.Nat.{le-of-eq, le-of-lt, eq-or-lt-of-le, mul-le-mul-right, le-of-mul-le-mul-right, mul-assoc, mul-right-comm, add-mul}
+use native.Mathlib.Nat.{le-of-eq, mul-le-mul-right, le-of-mul-le-mul-right}
 use native.Mathlib.Omega.{arith}
 use lib.IntN.{ℤ}
 use lib.Dec.{T, ltb, eqb, ltb→lt, lt→ltb, nltb→le, eqb→eq}

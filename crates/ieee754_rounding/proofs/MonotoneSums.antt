@@ -1,18 +1,18 @@
 -- A sum keeps the order of its first term: x + z and x - z, rounded, grow with x, in either format, subnormal results and overflow included.
 -- Assumes nothing.
-use mathlib.Core.Path.{_≡_, refl, sym, ap, _∙_, subst}
-use mathlib.Core.Bool.{Bool, true, false, not, _&&_, cond, Bool·beq}
+use mathlib.Core.Path.{_≡_, refl, sym, ap, subst}
+use mathlib.Core.Bool.{Bool, true, false, not, _&&_, cond}
 use Prim.Native.Nat.{ℕ, zero, suc, _+_, _-_, _*_, _^_, _≤_, _<_}
 use native.Mathlib.Nat.{le-refl, mul-pos, mul-le-mul-right}
 use native.Mathlib.Omega.{arith}
 use lib.IntN.{ℤ, pos}
 use borrow.Author.Tests.{le-ltb}
 use lib.Dec.{T, ltb, ltb→lt, nltb→le}
-use lib.Ieee.{Float, nan, inf, fin, Format, prec, low, emax, up, down, neg, le, lt, eq, isNan, odd, units, round, sum, add, sub, fits}
+use lib.Ieee.{Float, nan, inf, fin, Format, prec, low, emax, up, down, neg, le, lt, eq, isNan, odd, units, round, sum, add, sub}
 use lib.Ieee.Fits.{down-pos, round-is}
 use lib.Ieee.Order.{drop, kept, round-mono}
 use lib.Ieee.Scale.{finite}
-use Rattle.ieee754_rounding.proofs.FloatOrder.{over, under, le-of, of-le, lowest, highest, above-highest, below-lowest, left-number, right-number, neg-le, le-trans}
+use Rattle.ieee754_rounding.proofs.FloatOrder.{over, under, of-le, lowest, highest, above-highest, below-lowest, left-number, right-number, neg-le, le-trans}
 use Rattle.ieee754_rounding.proofs.Opposites.{neg-round, round-zero}
 
 -- ---- a rounded fraction is no NaN
@@ -29,7 +29,7 @@ units-number f s q k = go (ltb (q * 2 ^ k) (2 ^ (low f + suc (emax f))))
     go true = odd-number (suc (prec f)) s q k (low f)
     go false = tt
 
-pub round-number : (f : Format) (s : Bool) (a c : ℕ) → T (not (isNan (round f s a c)))
+round-number : (f : Format) (s : Bool) (a c : ℕ) → T (not (isNan (round f s a c)))
 round-number f s a c =
     subst (λ (z : Float). T (not (isNan z))) (sym (round-is f s a c)) (units-number f s (kept (prec f) (a * 2 ^ low f) c) (drop (prec f) (a * 2 ^ low f) c))
 
@@ -40,11 +40,11 @@ round-above f a c C = subst (λ (z : Float). T (le z (round f false a c))) (roun
     small : (a c : ℕ) → 0 * c ≤ a * c
     small a c = omega arith
 
-pub round-below : (f : Format) (a c : ℕ) → 0 < c → T (le (round f true a c) (fin true 0 (pos 0)))
+round-below : (f : Format) (a c : ℕ) → 0 < c → T (le (round f true a c) (fin true 0 (pos 0)))
 unfolding neg
 round-below f a c C = subst (λ (z : Float). T (le z (fin true 0 (pos 0)))) (neg-round f false a c) (neg-le (fin false 0 (pos 0)) (round f false a c) (round-above f a c C))
 
-pub round-mono-minus : (f : Format) (a b c d : ℕ) → 0 < b → 0 < d → c * b ≤ a * d → T (le (round f true a b) (round f true c d))
+round-mono-minus : (f : Format) (a b c d : ℕ) → 0 < b → 0 < d → c * b ≤ a * d → T (le (round f true a b) (round f true c d))
 round-mono-minus f a b c d B D h =
     subst (λ (z : Float). T (le z (round f true c d))) (neg-round f false a b)
     (subst (λ (z : Float). T (le (neg (round f false a b)) z)) (neg-round f false c d) (neg-le (round f false c d) (round f false a b) (round-mono f c d a b D B h)))
@@ -57,13 +57,13 @@ zeros false true = tt
 zeros false false = tt
 
 -- z is (p - q) / c, rounded once
-pub record Rounded (f : Format) (z : Float) (p q c : ℕ) : Type 0 where
-  pub sign : Bool
-  pub size : ℕ
-  pub is : z ≡ round f sign size c
-  pub by : cond sign q p ≡ cond sign p q + size
+record Rounded (f : Format) (z : Float) (p q c : ℕ) : Type 0 where
+  sign : Bool
+  size : ℕ
+  is : z ≡ round f sign size c
+  by : cond sign q p ≡ cond sign p q + size
 
-pub rounded-mono : (f : Format) (x y : Float) (p q c p' q' c' : ℕ) → 0 < c → 0 < c' → Rounded f x p q c → Rounded f y p' q' c'
+rounded-mono : (f : Format) (x y : Float) (p q c p' q' c' : ℕ) → 0 < c → 0 < c' → Rounded f x p q c → Rounded f y p' q' c'
     → p * c' + q' * c ≤ p' * c + q * c' → T (le x y)
 rounded-mono f x y p q c p' q' c' C C' r r' h =
     subst (λ (z : Float). T (le z y)) (sym (r .is))
@@ -155,7 +155,7 @@ sum-number f s a t b c =
     let r = sum-rounded f s a t b c in
     subst (λ (z : Float). T (not (isNan z))) (sym (r .is)) (round-number f (r .sign) (r .size) c)
 
-pub add-number : (f : Format) (x z : Float) → T (not (isNan x)) → T (finite z) → T (not (isNan (add f x z)))
+add-number : (f : Format) (x z : Float) → T (not (isNan x)) → T (finite z) → T (not (isNan (add f x z)))
 unfolding add isNan
 add-number f nan z h p = absurd h
 add-number f (inf s) nan h p = absurd p
@@ -198,10 +198,6 @@ neg-finite (fin s m e) p = p
 pub sub-mono : (f : Format) (x y z : Float) → T (finite z) → T (le x y) → T (le (sub f x z) (sub f y z))
 unfolding sub
 sub-mono f x y z p h = add-mono f x y (neg z) (neg-finite z p) h
-
-pub sub-number : (f : Format) (x z : Float) → T (not (isNan x)) → T (finite z) → T (not (isNan (sub f x z)))
-unfolding sub
-sub-number f x z h p = add-number f x (neg z) h (neg-finite z p)
 
 -- ---- a number and its opposite
 cancels : (f : Format) (s : Bool) (a c : ℕ) → 0 < c → sum f (not s) a s a c ≡ fin false 0 (pos 0)

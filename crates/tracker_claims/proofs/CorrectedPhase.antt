@@ -28,7 +28,7 @@ use Rattle.tracker.specs.declared.correction.Correction.{Correction}
 use Rattle.tracker.specs.declared.correction.Correction.the-variants.{Kept, Lost}
 use Rattle.tracker.specs.declared.correction.Corrected.{Corrected}
 use Rattle.tracker.specs.State.{withState, withLock, lostTracker}
-use Rattle.tracker.specs.Correction.{pairOrLost, maxFreq, maxChirp, priorOf, anyNan, wrappedPhase, limited, correctedOrLost, gained, windowed, bandCorrected}
+use Rattle.tracker.specs.Correction.{pairOrLost, maxFreq, maxChirp, priorOf, anyNan, wrappedPhase, limited, correctedOrLost, gained, bandCorrected}
 use Rattle.tracker.specs.Lock.{nextMetric, unlocks, settled}
 use Rattle.tracker.specs.Update.{settledBy, updated, settledAfter, secondCorrected, secondBy, updatedDual}
 use Rattle.tracker.proofs.Settings.{corrected-keeps}

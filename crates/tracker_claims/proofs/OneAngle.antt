@@ -4,7 +4,7 @@ use mathlib.Core.Path.{_≡_, refl, sym, ap, subst, _∙_}
 use mathlib.Core.Bool.{Bool, true, false, not, cond}
 use Prim.Native.Nat.{_+_, _-_}
 use lib.Dec.{T, lit<, not-T}
-use lib.Ieee.{Float, nan, inf, fin, binary64, neg, lt, le, eq, isNan, add, sub, rem, fits, ofBits}
+use lib.Ieee.{Float, nan, inf, fin, binary64, neg, lt, le, isNan, add, sub, rem, fits, ofBits}
 use lib.Ieee.Bits.{is-true}
 use lib.Ieee.Fits.{add-fits, rem-fits, cond-fits, neg-fits}
 use lib.Ieee.Scale.{finite}

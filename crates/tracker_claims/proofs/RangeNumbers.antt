@@ -1,6 +1,6 @@
 -- The numbers of each modulation's range, by computation: half the range, its length, the f64s next to them, and what sums of these are. Assumes nothing.
 use mathlib.Core.Path.{_≡_, refl}
-use mathlib.Core.Bool.{Bool, true, false, not}
+use mathlib.Core.Bool.{false, not}
 use Prim.Native.Nat.{ℕ, _+_, _-_, _^_}
 use lib.Dec.{T, lit<, lit≤}
 use lib.Ieee.{Float, binary64, neg, lt, le, eq, isNan, add, sub, low, fits, ofBits}
