@@ -244,11 +244,11 @@ fn correct(f: Reference, r: &mut Random) -> Line {
 }
 
 /// A correction that only wraps: without covariance the gain is 0, and the phase is at an end of the range, a whole range away from one or beside these.
-/// All of them come by turns.
+/// One after the other, so that none is left out.
 fn wrap(f: Reference, _: &mut Random) -> Line {
-    static TURN: AtomicUsize = AtomicUsize::new(0);
-    let turn = TURN.fetch_add(1, Ordering::Relaxed);
-    let (modulation, channel, beside, end) = (turn % 3, turn / 3 % 2, turn / 6 % 5, turn / 30 % WRAP_ENDS.len());
+    static MADE: AtomicUsize = AtomicUsize::new(0);
+    let n = MADE.fetch_add(1, Ordering::Relaxed);
+    let (modulation, channel, beside, end) = (n % 3, n / 3 % 2, n / 6 % 5, n / 30 % WRAP_ENDS.len());
     let limit = if modulation == 2 { PI / 2.0 } else { 2.0 * PI };
     let mut phase = limit * WRAP_ENDS[end];
     for _ in 2..beside {
@@ -266,6 +266,7 @@ fn wrap(f: Reference, _: &mut Random) -> Line {
 /// The ends of the range and one more place that is wrapped to one, in ranges.
 const WRAP_ENDS: [f64; 3] = [-0.5, 0.5, 1.5];
 
+/// What a correction is given and what it leaves.
 fn corrected(f: Reference, mut t: Tracker, mut window: [f64; STRETCH], channel: u64, s: [f32; 2]) -> Line {
     let mut line = Line::new("correct");
     line.whole(channel);

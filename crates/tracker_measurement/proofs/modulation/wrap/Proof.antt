@@ -1,5 +1,4 @@
 -- `wrap` by the range of the modulation: the quick way within it, and the remainder elsewhere, where plus half can be reached.
-use mathlib.Core.Path.{_≡_, refl}
 use borrow.Author.Needs.{needs}
 use Rattle.tracker_measurement.proofs.WrapSteps.{quick, at-half, below-half}
 use Rattle.tracker_measurement.proofs.modulation.wrap.Statement.{statement}
