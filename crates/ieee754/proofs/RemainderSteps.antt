@@ -4,11 +4,11 @@ use mathlib.Core.Path.{_≡_, refl, sym, ap, _∙_, subst}
 use mathlib.Core.Logic.{inl, inr}
 use mathlib.Core.Bool.{Bool, true, false, not, true≢false}
 use Prim.Native.Nat.{ℕ, _+_, _-_, _*_, _/_, _%_, _^_, _≤_, _<_}
-use native.Mathlib.Nat.{le-trans, le-of-eq, le-of-lt, lt-of-lt-of-le, not-le-of-lt, mul-assoc, mul-comm, mul-right-comm, one-mul, mul-pos, mul-le-mul-left, mul-le-mul-right, mul-lt-mul-of-pos-right, le-of-mul-le-mul-right, mod-lt, mod-eq-of-lt, div-add-mod', add-mul, add-comm, add-mul-mod-self-right}
+use native.Mathlib.Nat.{le-trans, le-of-eq, le-of-lt, lt-of-lt-of-le, not-le-of-lt, mul-assoc, mul-comm, mul-right-comm, one-mul, mul-pos, mul-le-mul-right, mul-lt-mul-of-pos-right, le-of-mul-le-mul-right, mod-lt, mod-eq-of-lt, div-add-mod', add-mul, add-comm, add-mul-mod-self-right}
 use native.Mathlib.Omega.{arith}
 use lib.IntN.{ℤ}
 use lib.Dec.{T, ltb→lt, lt→ltb, not-T}
-use lib.Pow.{pow-add, pow-pos, pow-mono}
+use lib.Pow.{pow-pos}
 use lib.Ieee.{Float, nan, inf, fin, Format, prec, low, up, down, neg, lt, le, isNan, round, rem, fits}
 use lib.Ieee.Fits.{up-pos, down-pos, two, two-le-pos}
 use lib.Ieee.Exact.{HasValue, round-exact}
@@ -17,7 +17,7 @@ use lib.Ieee.Scale.{finite}
 use lib.Ieee.Positive.{positive, above, above-of-le, first-pos, positive-of-value, value-pos, values-of-le}
 use Rattle.ieee754_rounding.proofs.Comparison.{lt-or-le}
 use Rattle.ieee754_rounding.proofs.FloatOrder.{neg-le, lt-not-le, lt-of-not-le}
-use Rattle.ieee754_rounding.proofs.FormatValues.{grid-of, split-power, rescale}
+use Rattle.ieee754_rounding.proofs.FormatValues.{grid-of, split-power, fewer-places, rescale}
 use Rattle.ieee754_rounding.proofs.Opposites.{neg-neg}
 use Rattle.ieee754.specs.Sign.{plusZero}
 use Rattle.ieee754.proofs.SmallRemainder.{rem-is, rem-below}
@@ -47,21 +47,9 @@ record Stepped (f : Format) (r : Float) (s : Bool) (n i : ℕ) : Type 0 where
 -- what is not below n * 2 ^ i has no smaller places
 aligned : (p m j n i : ℕ) → 0 < p → m < 2 ^ p → 2 ^ (p - 1) ≤ n → n * 2 ^ i ≤ m * 2 ^ j → i ≤ j
 aligned p m j n i P small full h = elim (lt-or-le j i) [
-  | inl a ↦
-      absurd
-      (not-le-of-lt
-      (lt-of-lt-of-le (mul-lt-mul-of-pos-right small (pow-pos j))
-      (le-trans (mul-le-mul-left (2 ^ p) (pow-mono (less j i a)))
-      (le-trans (le-of-eq (sym (pow-add 2 p (i - 1)) ∙ ap (λ (z : ℕ). 2 ^ z) (moved p i j P a) ∙ pow-add 2 (p - 1) i)) (mul-le-mul-right (2 ^ i) full))))
-      h)
+  | inl a ↦ absurd (not-le-of-lt (lt-of-lt-of-le (mul-lt-mul-of-pos-right small (pow-pos j)) (le-trans (fewer-places p i j P a) (mul-le-mul-right (2 ^ i) full))) h)
   | inr a ↦ a
 ]
-  where
-    less : (a b : ℕ) → a < b → a ≤ b - 1
-    less a b h = omega arith
-
-    moved : (p i j : ℕ) → 0 < p → j < i → p + (i - 1) ≡ p - 1 + i
-    moved p i j P h = omega arith
 
 module _ (f : Format) (s : Bool) (m : ℕ) (e : ℤ) (k : ℕ) (d : ℤ) (n i : ℕ) (t : T (fits f (fin s m e))) (v : Digits f (fin false k d) n i) where
   abbrev A : ℕ

@@ -4,7 +4,7 @@ use mathlib.Core.Path.{_≡_, refl, sym, ap, _∙_}
 use mathlib.Core.Logic.{inl, inr}
 use mathlib.Core.Bool.{Bool, true, false, not, _&&_, true≢false}
 use Prim.Native.Nat.{ℕ, zero, suc, _+_, _-_, _*_, _%_, _^_, _≤_, _<_}
-use native.Mathlib.Nat.{le-trans, le-of-eq, le-of-lt, lt-of-le-of-lt, lt-of-lt-of-le, lt-of-not-le, not-le-of-lt, lt-of-mul-lt-mul-right, mul-lt-mul-of-pos-right, mul-assoc, mul-comm, mul-right-comm, mul-one, one-mul, zero-mul, mul-pos, mul-le-mul, mul-le-mul-right, le-of-mul-le-mul-right, eq-of-mul-eq-mul-right}
+use native.Mathlib.Nat.{le-trans, le-of-eq, le-of-lt, lt-of-le-of-lt, lt-of-lt-of-le, lt-of-not-le, not-le-of-lt, lt-of-mul-lt-mul-right, mul-lt-mul-of-pos-right, mul-assoc, mul-comm, mul-right-comm, mul-one, one-mul, zero-mul, mul-pos, mul-le-mul, mul-le-mul-left, mul-le-mul-right, le-of-mul-le-mul-right, eq-of-mul-eq-mul-right}
 use native.Mathlib.Omega.{arith}
 use lib.IntN.{ℤ, pos, negsuc}
 use lib.Dec.{T, ltb, leb, eqb, ltb→lt, leb→le, eqb→eq}
@@ -164,18 +164,21 @@ at-least-largest f (fin s m e) t p =
     signs false a d b h = omega arith
 
 -- ---- the next value down: from n units of 2 ^ i, n having `prec` digits and not being the least such, it is n - 1 of them
+
+-- p digits at smaller places are less than the least number of p digits
+pub fewer-places : (p i j : ℕ) → 0 < p → j < i → 2 ^ p * 2 ^ j ≤ 2 ^ (p - 1) * 2 ^ i
+fewer-places p i j P a = le-trans (mul-le-mul-left (2 ^ p) (pow-mono (less j i a))) (le-of-eq (sym (pow-add 2 p (i - 1)) ∙ ap (λ (z : ℕ). 2 ^ z) (moved p i j P a) ∙ pow-add 2 (p - 1) i))
+  where
+    moved : (p i j : ℕ) → 0 < p → j < i → p + (i - 1) ≡ p - 1 + i
+    moved p i j P h = omega arith
+
 next-down : (p m j n i : ℕ) → 0 < p → m < 2 ^ p → 2 ^ (p - 1) < n → m * 2 ^ j < n * 2 ^ i → m * 2 ^ j ≤ (n - 1) * 2 ^ i
 next-down p m j n i P small big h = elim (lt-or-le j i) [
-  | inl a ↦
-      le-trans (mul-le-mul (le-of-lt small) (pow-mono (less j i a)))
-      (le-trans (le-of-eq (sym (pow-add 2 p (i - 1)) ∙ ap (λ (z : ℕ). 2 ^ z) (moved p i j P a) ∙ pow-add 2 (p - 1) i)) (mul-le-mul-right (2 ^ i) (less (2 ^ (p - 1)) n big)))
+  | inl a ↦ le-trans (mul-le-mul-right (2 ^ j) (le-of-lt small)) (le-trans (fewer-places p i j P a) (mul-le-mul-right (2 ^ i) (less (2 ^ (p - 1)) n big)))
   | inr a ↦
       let e = split-power m j i a in
       le-trans (le-of-eq e) (mul-le-mul-right (2 ^ i) (less (m * 2 ^ (j - i)) n (lt-of-mul-lt-mul-right (2 ^ i) (lt-of-le-of-lt (le-of-eq (sym e)) h))))
 ]
-  where
-    moved : (p i j : ℕ) → 0 < p → j < i → p + (i - 1) ≡ p - 1 + i
-    moved p i j P h = omega arith
 
 value-number : (x : Float) (a c : ℕ) → HasValue x false a c → T (not (isNan x)) × T (le (fin false 0 (pos 0)) x)
 value-number x a c v = (right-number (fin false 0 (pos 0)) x (not-negative x v), not-negative x v)
