@@ -15,7 +15,7 @@ use Rattle.ieee754_rounding.proofs.RoundingError.{absolute, no-overflow}
 use Rattle.elementary_fixed_point.specs.Conversion.{fixed}
 use Rattle.elementary_fixed_point.specs.Ratio.{ratio}
 use Rattle.elementary_fixed_point.specs.Code.Bounds.{Fixable, Proper, Enclosure, NearRatio}
-use Rattle.elementary_fixed_point.proofs.FromFloat.{whole}
+use Rattle.elementary_fixed_point.proofs.FromFloat.{fixed-encloses}
 
 -- y is a float near n / d, and so is its fixed-point number
 record Fine (y : Float) (n d : ℕ) : Type 0 where
@@ -94,11 +94,11 @@ fine n d dp h =
     go P G Pp unit few v below above (fin false m e) f hv =
         let kp : 0 < down e = down-pos e in
         let ok : Fixable (fin false m e) = record { from = tt; below = in-range P G Pp unit (fixed (fin false m e)) (m * up e) (down e) v n d kp (hv .1) dp h below few } in
-        let w = whole (fin false m e) f ok in
+        let w = fixed-encloses (fin false m e) f ok in
         record {
           fixable = ok;
-          low = low-step P G Pp unit (fixed (fin false m e)) (m * up e) (down e) v n d kp (hv .1) (w .encloses .low) below;
-          high = high-step P G Pp unit (fixed (fin false m e)) (m * up e) (down e) v n d kp (hv .1) (w .encloses .high) above;
+          low = low-step P G Pp unit (fixed (fin false m e)) (m * up e) (down e) v n d kp (hv .1) (w .low) below;
+          high = high-step P G Pp unit (fixed (fin false m e)) (m * up e) (down e) v n d kp (hv .1) (w .high) above;
         }
 
 at : (a b : Float) → Proper a b → Fine (div binary64 a b) (num a * den b) (num b * den a)

@@ -1,19 +1,18 @@
 -- A finite x above 0 by its bit pattern: the significand and the exponent that the steps take from it, and the logarithm by them.
-use mathlib.Core.Path.{_≡_, sym, ap, _∙_, subst}
-use mathlib.Core.Bool.{Bool, true, false, not, cond, true≢false}
+use mathlib.Core.Path.{_≡_, refl, sym, ap, _∙_, subst}
+use mathlib.Core.Bool.{Bool, true, false, not, cond}
 use Prim.Native.Nat.{ℕ, suc, _+_, _-_, _*_, _/_, _%_, _^_, _≤_, _<_}
-use native.Mathlib.Nat.{le-trans, le-of-eq, lt-of-le-of-lt, lt-of-lt-of-le, lt-irrefl, lt-of-not-le, zero-lt-suc, mul-assoc, mul-right-comm, mul-one, zero-mul, mul-pos, mul-le-mul-right, mod-eq-of-lt, mod-lt}
+use native.Mathlib.Nat.{le-trans, le-of-eq, lt-of-le-of-lt, lt-of-lt-of-le, lt-irrefl, lt-of-not-le, zero-lt-suc, mul-assoc, mul-right-comm, mul-one, zero-mul, mul-pos, mul-le-mul-right, mod-eq-of-lt}
 use native.Mathlib.Omega.{arith}
 use lib.IntN.{ℤ}
-use lib.Dec.{T, ltb, eqb, ltb→lt, nltb→le, T-not, lit<, lit≤}
+use lib.Dec.{T, ltb, ltb→lt, nltb→le, T-not, lit<, lit≤}
 use lib.Pow.{pow-pos, pow-add, pow-mono, shl-lt}
 use lib.Count.{leadingZeros, leading-top}
-use lib.Ieee.{Float, nan, inf, fin, binary64, up, down, neg, fits, ofBits, toBits}
+use lib.Ieee.{Float, fin, binary64, up, down, neg, fits, toBits}
 use lib.Ieee.Fits.{up-pos, and-l, and-r}
-use lib.Ieee.Exact.{HasValue}
 use lib.Ieee.Scale.{finite}
 use Rattle.ieee754.specs.Binary64.{twoToMinus81}
-use Rattle.ieee754.proofs.Fields.{signed, value-low, value-normal, value-top, by-plus, by-minus}
+use Rattle.ieee754.proofs.Fields.{below-infinity, size-low, size-normal, unsigned}
 use Rattle.elementary_fixed_point.specs.Conversion.{scaled}
 use Rattle.elementary_logarithm.specs.Steps.{oneBits, logAt, nearOne, farFromOne, logOfBits, common, pastOne, beforeOne}
 use Rattle.elementary_logarithm.specs.Code.Parts.{isNearOne}
@@ -70,39 +69,14 @@ module _ (m : ℕ) (e : ℤ) (F : T (fits binary64 (fin false (suc m) e))) where
   abbrev b : ℕ
   b = toBits binary64 x
 
-  -- x is no NaN and no infinity, and its sign is clear
-  not-special : (s c : Bool) → x ≡ cond c (inf s) nan → ⊥
-  not-special s true h = subst (λ (w : Float). T (finite w)) h tt
-  not-special s false h = subst (λ (w : Float). T (finite w)) h tt
-
-  value : (s : Bool) (a n : ℕ) → ofBits binary64 (signed binary64 s a) ≡ x → HasValue (ofBits binary64 (signed binary64 s a)) s n (2 ^ 1074) → HasValue x s n (2 ^ 1074)
-  value s a n h v = subst (λ (w : Float). HasValue w s n (2 ^ 1074)) h v
-
   positive-bits : b < 2 ^ 63
-  positive-bits = go (ltb b (2 ^ 63)) (ltb→lt b (2 ^ 63)) (nltb→le b (2 ^ 63))
-    where
-      a : ℕ
-      a = b % 2 ^ 63
+  positive-bits = unsigned binary64 x F tt refl
 
-      never : 2 ^ 63 ≤ b → ⊥
-      never h =
-          let r : ofBits binary64 (signed binary64 true a) ≡ x = by-minus binary64 x F h in
-          ranges (ltb a (2 ^ 52)) (ltb a 0x7ff0_0000_0000_0000) (ltb→lt a (2 ^ 52)) (nltb→le a (2 ^ 52)) (ltb→lt a 0x7ff0_0000_0000_0000) (nltb→le a 0x7ff0_0000_0000_0000) r
-        where
-          ranges : (c d : Bool) → (T c → a < 2 ^ 52) → (T (not c) → 2 ^ 52 ≤ a) → (T d → a < 0x7ff0_0000_0000_0000) → (T (not d) → 0x7ff0_0000_0000_0000 ≤ a) → ofBits binary64 (signed binary64 true a) ≡ x → ⊥
-          ranges true d f g h k r = true≢false (sym (value true a (a * 2 ^ 0) r (value-low binary64 true a (f tt)) .0))
-          ranges false true f g h k r = true≢false (sym (value true a ((2 ^ 52 + a % 2 ^ 52) * 2 ^ (a / 2 ^ 52 - 1)) r (value-normal binary64 true a (g tt) (h tt)) .0))
-          ranges false false f g h k r = not-special true (eqb (a % 2 ^ 52) 0) (sym r ∙ value-top binary64 true a (k tt) (mod-lt b (pow-pos 63)))
+  own : b % 2 ^ 63 ≡ b
+  own = mod-eq-of-lt positive-bits
 
-      go : (c : Bool) → (T c → b < 2 ^ 63) → (T (not c) → 2 ^ 63 ≤ b) → b < 2 ^ 63
-      go true f g = f tt
-      go false f g = absurd (never (g tt))
-
-  read : ofBits binary64 (signed binary64 false b) ≡ x
-  read = ap (λ (z : ℕ). ofBits binary64 (0 + z)) (sym (mod-eq-of-lt positive-bits)) ∙ by-plus binary64 x F positive-bits
-
-  low-value : b < 2 ^ 52 → HasValue x false (b * 2 ^ 0) (2 ^ 1074)
-  low-value h = value false b (b * 2 ^ 0) read (value-low binary64 false b h)
+  low-value : b < 2 ^ 52 → suc m * up e * 2 ^ 1074 ≡ b * 2 ^ 0 * down e
+  low-value h = subst (λ (z : ℕ). suc m * up e * 2 ^ 1074 ≡ z * 2 ^ 0 * down e) own (size-low binary64 x F tt (subst (λ (z : ℕ). z < 2 ^ 52) (sym own) h))
 
   pub bits-pos : 0 < b
   bits-pos = go (ltb 0 b) (ltb→lt 0 b) (nltb→le 0 b)
@@ -114,18 +88,14 @@ module _ (m : ℕ) (e : ℤ) (F : T (fits binary64 (fin false (suc m) e))) where
       go true f g = f tt
       go false f g =
           let v = low-value (lt-of-le-of-lt (g tt) (lit< tt)) in
-          absurd (lt-irrefl 0 (subst (λ (k : ℕ). 0 < k) (v .1 ∙ ap (λ (k : ℕ). k * 2 ^ 0 * down e) (none b (g tt)) ∙ zero-mul (down e)) (mul-pos (mul-pos (zero-lt-suc m) (up-pos e)) (pow-pos 1074))))
+          absurd (lt-irrefl 0 (subst (λ (k : ℕ). 0 < k) (v ∙ ap (λ (k : ℕ). k * 2 ^ 0 * down e) (none b (g tt)) ∙ zero-mul (down e)) (mul-pos (mul-pos (zero-lt-suc m) (up-pos e)) (pow-pos 1074))))
 
   pub bits-finite : b < 0x7ff0_0000_0000_0000
-  bits-finite = go (ltb b 0x7ff0_0000_0000_0000) (ltb→lt b 0x7ff0_0000_0000_0000) (nltb→le b 0x7ff0_0000_0000_0000)
-    where
-      go : (c : Bool) → (T c → b < 0x7ff0_0000_0000_0000) → (T (not c) → 0x7ff0_0000_0000_0000 ≤ b) → b < 0x7ff0_0000_0000_0000
-      go true f g = f tt
-      go false f g = absurd (not-special false (eqb (b % 2 ^ 52) 0) (sym read ∙ value-top binary64 false b (g tt) positive-bits))
+  bits-finite = subst (λ (z : ℕ). z < 0x7ff0_0000_0000_0000) own (below-infinity binary64 x F tt)
 
   -- N of the smallest values
-  lifted : (N : ℕ) → HasValue x false N (2 ^ 1074) → suc m * up e * 2 ^ 1126 ≡ N * 2 ^ 52 * down e
-  lifted N v = sym (mul-assoc (suc m * up e) (2 ^ 1074) (2 ^ 52)) ∙ ap (λ (z : ℕ). z * 2 ^ 52) (v .1) ∙ mul-right-comm N (down e) (2 ^ 52)
+  lifted : (N : ℕ) → suc m * up e * 2 ^ 1074 ≡ N * down e → suc m * up e * 2 ^ 1126 ≡ N * 2 ^ 52 * down e
+  lifted N v = sym (mul-assoc (suc m * up e) (2 ^ 1074) (2 ^ 52)) ∙ ap (λ (z : ℕ). z * 2 ^ 52) v ∙ mul-right-comm N (down e) (2 ^ 52)
 
   -- ---- a normal number
   abbrev s : ℕ
@@ -154,7 +124,7 @@ module _ (m : ℕ) (e : ℤ) (F : T (fits binary64 (fin false (suc m) e))) where
 
   normal-is : 2 ^ 52 ≤ b → suc m * up e * 2 ^ 1126 ≡ s * 2 ^ p * down e
   normal-is l =
-      lifted ((2 ^ 52 + b % 2 ^ 52) * 2 ^ (b / 2 ^ 52 - 1)) (value false b ((2 ^ 52 + b % 2 ^ 52) * 2 ^ (b / 2 ^ 52 - 1)) read (value-normal binary64 false b l bits-finite))
+      lifted ((2 ^ 52 + b % 2 ^ 52) * 2 ^ (b / 2 ^ 52 - 1)) (subst (λ (z : ℕ). suc m * up e * 2 ^ 1074 ≡ (2 ^ 52 + z % 2 ^ 52) * 2 ^ (z / 2 ^ 52 - 1) * down e) own (size-normal binary64 x F tt (subst (λ (z : ℕ). 2 ^ 52 ≤ z) (sym own) l)))
       ∙ ap (λ (k : ℕ). k * down e) (mul-assoc (2 ^ 52 + b % 2 ^ 52) (2 ^ (b / 2 ^ 52 - 1)) (2 ^ 52) ∙ ap (λ (k : ℕ). k * (2 ^ (b / 2 ^ 52 - 1) * 2 ^ 52)) (swap (b % 2 ^ 52)) ∙ ap (λ (k : ℕ). s * k) (sym (pow-add 2 (b / 2 ^ 52 - 1) 52) ∙ ap (λ (k : ℕ). 2 ^ k) (step b l)))
     where
       swap : (n : ℕ) → 2 ^ 52 + n ≡ n + 2 ^ 52

@@ -5,13 +5,14 @@ use Prim.Native.Nat.{ℕ, _+_, _-_, _*_, _/_, _^_}
 use mathlib.Core.Bool.{cond}
 use mathlib.Core.List.{List}
 use lib.Dec.{leb}
-use lib.Ieee.{Float, nan, binary64, neg, rem, lt}
+use lib.Ieee.{Float, nan, neg, lt}
 use lib.Ieee.Scale.{finite}
-use Rattle.ieee754.specs.Binary64.{twoPi, twoToMinus16, twoToMinus53}
+use Rattle.ieee754.specs.Binary64.{twoToMinus16, twoToMinus53}
 use Rattle.ieee754.specs.Sign.{absolute, signBit, signed}
 use Rattle.elementary_fixed_point.specs.Series.{factorial}
 use Rattle.elementary_fixed_point.specs.Product.{hi, horner, tabulate}
-use Rattle.elementary_fixed_point.specs.Conversion.{fixed, scaled}
+use Rattle.elementary_fixed_point.specs.Conversion.{scaled}
+use Rattle.elementary_reduction.specs.Reduction.{reduced}
 
 -- The coefficients 1 / (j + 4 i)! of the terms of degree j, j + 4, .., in units of 2 ^ -u, rounded down. The polynomials' argument is
 -- x^4 / 4096, which stays below 1, so each coefficient is times 4096 ^ i.
@@ -29,11 +30,10 @@ sineSeries x = let x2 = hi x x in let x4 = hi x2 x2 in difference (hi x (horner 
 unfoldable pub cosineSeries : ℕ → Float
 cosineSeries x = let x2 = hi x x in let x4 = hi x2 x2 in difference (horner x4 (coefficients 53 0)) (hi x2 (horner x4 (coefficients 59 2)))
 
--- The sine of an angle, at its remainder r, which has its sign. Below 2 ^ -16 it is r itself, which is nearer in proportion.
+-- The sine of an angle: of its remainder, with its sign. Below 2 ^ -16 it is θ itself, which is nearer in proportion. (A remainder below 2 ^ -16 of a larger
+-- angle is no float, and takes the series.)
 unfoldable pub sine : Float → Float
-sine θ =
-    let r = rem binary64 θ twoPi in
-    cond (finite r) (cond (lt (absolute r) twoToMinus16) r (signed (signBit r) (sineSeries (fixed (absolute r))))) nan
+sine θ = cond (finite θ) (cond (lt (absolute θ) twoToMinus16) θ (signed (signBit θ) (sineSeries (reduced θ)))) nan
 
 unfoldable pub cosine : Float → Float
-cosine θ = let r = rem binary64 θ twoPi in cond (finite r) (cosineSeries (fixed (absolute r))) nan
+cosine θ = cond (finite θ) (cosineSeries (reduced θ)) nan

@@ -123,10 +123,6 @@ quarterPi = ofBits binary64 0x3fe9_21fb_5444_2d18
 
 -- ---- powers of two
 
--- 2 ^ 10, 1,024
-abbrev pub twoTo10 : Float
-twoTo10 = ofBits binary64 0x4090_0000_0000_0000
-
 -- 2 ^ -16, 0.0000152587890625
 abbrev pub twoToMinus16 : Float
 twoToMinus16 = ofBits binary64 0x3ef0_0000_0000_0000

@@ -6,6 +6,7 @@ use Rattle.sequences.specs.Folds.{some}
 use Rattle.ieee754.specs.Sign.{absolute}
 use Rattle.ieee754.specs.Remainder.{remEuclid}
 use Rattle.ieee754.specs.SquareRoot.{sqrt, roundRoot, rootDigits}
+use Rattle.elementary_sincos.proofs.WorkedValues.{sine-far, cosine-far}
 use Rattle.elementary_arctangent.specs.SpecialCases.{special}
 use Rattle.elementary_arctangent.specs.Steps.{atan2Of}
 use Rattle.survey.specs.Survey.{notANumber, clipped, signal, surveyOf}
@@ -49,5 +50,7 @@ worked-values =
       wrap-farther = refl;
       wrap-farther-bpsk = refl;
       wrap-farther-qpsk = refl;
+      sine-far = sine-far;
+      cosine-far = cosine-far;
       pass-list = pass-list;
     }

@@ -1,6 +1,6 @@
--- "Values on both sides", those marked P, the example of "The pass text and its list", and the angles of the request for one name for half a turn: one
--- table, which proofs/Proved.antt proves of the definitions. Definitions only.
-use Prim.Native.Nat.{_≤_}
+-- "Values on both sides", those marked P, the example of "The pass text and its list", the angles of the request for one name for half a turn, and a large
+-- angle: one table, which proofs/Proved.antt proves of the definitions. Definitions only.
+use Prim.Native.Nat.{_^_, _≤_}
 use mathlib.Core.Path.{_≡_}
 use mathlib.Core.Bool.{Bool, true}
 use mathlib.Core.List.{List, [], _∷_}
@@ -10,6 +10,8 @@ use Rattle.ieee754.specs.Binary64 as float
 use Rattle.ieee754.specs.Binary32 as float32
 use Rattle.sequences.specs.Pairs.{pairs}
 use Rattle.ieee754.specs.SquareRoot.{sqrt}
+use Rattle.elementary_fixed_point.specs.Fraction.{Near}
+use Rattle.elementary_sincos.specs.Steps.{sine, cosine}
 use Rattle.elementary_arctangent.specs.Steps.{atan2Of}
 use Rattle.survey.specs.Survey.{surveyOf}
 use Rattle.tracker_measurement.specs.declared.modulation.Modulation.the-variants.{Carrier, Bpsk, Qpsk}
@@ -69,5 +71,8 @@ pub record WorkedValues : Type 0 where
   pub wrap-farther : wrapped Carrier (ofBits binary64 0xc009_21fb_5444_2d1a) ≡ ofBits binary64 0x4009_21fb_5444_2d16
   pub wrap-farther-bpsk : wrapped Bpsk (ofBits binary64 0xc009_21fb_5444_2d1a) ≡ ofBits binary64 0x4009_21fb_5444_2d16
   pub wrap-farther-qpsk : wrapped Qpsk (ofBits binary64 0xbfe9_21fb_5444_2d1a) ≡ ofBits binary64 0x3fe9_21fb_5444_2d16
+  -- sine and cosine of 10 ^ 22, which is an f64, are -0.8522008497671888017727.. and 0.5232147853951389454975.. (published, as a test of argument reduction)
+  pub sine-far : Near 40 (sine (ofBits binary64 0x4480_f0cf_064d_d592)) (record { plus = 0; minus = 8522008497671888017727; over = 10 ^ 22 })
+  pub cosine-far : Near 40 (cosine (ofBits binary64 0x4480_f0cf_064d_d592)) (record { plus = 5232147853951389454975; minus = 0; over = 10 ^ 22 })
   -- the list of the pass text's example
   pub pass-list : listOf passText ≡ passList

@@ -1,29 +1,9 @@
--- Module 2: sine and cosine in the parts in which the code has them: the remainder, what is taken of it, and the series from powers that both share.
--- Definitions only.
+-- Module 2: the series of sine and cosine in the parts in which the code has them, from powers that both share. Definitions only.
 use Prim.Native.Nat.{ℕ}
-use mathlib.Core.Bool.{false, cond}
 use mathlib.Core.List.{List}
-use lib.Ieee.{Float, nan, inf, fin, binary64, rem, lt}
-use Rattle.ieee754.specs.Binary64.{twoPi, twoToMinus16}
-use Rattle.ieee754.specs.Sign.{signed}
+use lib.Ieee.{Float}
 use Rattle.elementary_fixed_point.specs.Product.{hi, horner}
-use Rattle.elementary_fixed_point.specs.Conversion.{fixed}
-use Rattle.elementary_sincos.specs.Steps.{coefficients, difference, sineSeries, cosineSeries}
-
--- Rust's θ % 2π, which has the sign of θ; a NaN for a NaN and an infinity
-unfoldable pub remainder : Float → Float
-remainder θ = rem binary64 θ twoPi
-
--- the sine and the cosine of a remainder
-unfoldable pub sineOf : Float → Float
-sineOf nan = nan
-sineOf (inf s) = nan
-sineOf (fin s m e) = cond (lt (fin false m e) twoToMinus16) (fin s m e) (signed s (sineSeries (fixed (fin false m e))))
-
-unfoldable pub cosineOf : Float → Float
-cosineOf nan = nan
-cosineOf (inf s) = nan
-cosineOf (fin s m e) = cosineSeries (fixed (fin false m e))
+use Rattle.elementary_sincos.specs.Steps.{coefficients, difference}
 
 -- the tables: sine's added and subtracted terms, and cosine's
 abbrev pub sinePlus : List ℕ

@@ -1,0 +1,2 @@
+-- Module 2: the turn is 2π to 160 binary places.
+pub mod Machin
