@@ -4,8 +4,9 @@ use mathlib.Core.Bool.{Bool, true, false, not, true≢false}
 use Prim.Native.Nat.{ℕ, _+_, _*_, _^_, _≤_, _<_}
 use native.Mathlib.Omega.{arith}
 use lib.IntN.{ℤ}
-use lib.Dec.{T, ltb, ltb→lt, nltb→le, lt→ltb}
+use lib.Dec.{T, ltb, ltb→lt, nltb→le, lt→ltb, not-T}
 use lib.Ieee.{Float, nan, inf, fin, binary64, up, down, lt, ne, div, fits, isNan, ofBits}
+use lib.Ieee.Bits.{is-false}
 use lib.Ieee.Fits.{down-pos}
 use lib.Ieee.Positive.{num, den}
 use lib.Ieee.Scale.{finite}
@@ -17,6 +18,7 @@ use Rattle.elementary_fixed_point.specs.Code.Bounds.{Fixable, nonnegative}
 use Rattle.ieee754_rounding.proofs.FormatValues.{fits-unsigned}
 use Rattle.ieee754.specs.Binary64.{twoPi, twoToMinus16}
 use Rattle.elementary_reduction.specs.Reduction.{reduced}
+use Rattle.elementary_reduction.proofs.Fractions.{turns}
 use Rattle.elementary_sincos.specs.Steps.{sineSeries, cosineSeries, sine, cosine}
 use Rattle.elementary_sincos.specs.Promise.{SinePromise, CosinePromise}
 use Rattle.elementary_sincos.specs.Code.Parts.{sineFrom, cosineFrom}
@@ -131,7 +133,31 @@ absolute-fits nan f = f
 absolute-fits (inf s) f = unfold fits in tt
 absolute-fits (fin s m e) f = fits-unsigned binary64 s m e f
 
+-- an angle beyond one turn is not below 2 ^ -16
+beyond-small : (θ : Float) → lt (absolute θ) twoPi ≡ false → lt (absolute θ) twoToMinus16 ≡ false
+unfolding lt ofBits absolute
+beyond-small nan h = refl
+beyond-small (inf s) h = refl
+beyond-small (fin s m e) h =
+    is-false (ltb (m * up e * 2 ^ 16) (1 * 1 * down e))
+    (not-T (ltb (m * up e * 2 ^ 16) (1 * 1 * down e)) (λ (t : T (ltb (m * up e * 2 ^ 16) (1 * 1 * down e))). none (m * up e) (down e) (ltb→lt (m * up e * 2 ^ 16) (1 * 1 * down e) t) (nltb→le (m * up e * 2 ^ 47) (turns * 1 * down e) (no h))))
+  where
+    none : (a d : ℕ) → a * 2 ^ 16 < 1 * 1 * d → turns * 1 * d ≤ a * 2 ^ 47 → ⊥
+    none a d f g = omega arith
+
+-- a test that is turned round
+pub not-so : (b : Bool) → not b ≡ true → b ≡ false
+not-so true h = absurd (true≢false (sym h))
+not-so false h = refl
+
+pub so : (b : Bool) → not b ≡ false → b ≡ true
+so true h = refl
+so false h = absurd (true≢false h)
+
 module _ (θ a : Float) (ea : a ≡ absolute θ) where
+  pub not-small : lt a twoPi ≡ false → lt (absolute θ) twoToMinus16 ≡ false
+  not-small h = beyond-small θ (subst (λ (z : Float). lt z twoPi ≡ false) ea h)
+
   -- within one turn
   pub near-requires : lt a twoPi ≡ true → Fixable a
   near-requires h = subst Fixable (sym ea) (within-fixable (absolute θ) (under-turn θ is .from) (yes is))

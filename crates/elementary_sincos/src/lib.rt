@@ -21,7 +21,8 @@ fn sine_at(x: u64, negative: bool) -> f64
     series::sine(x, x2, x4, negative)
 }
 
-// The sine of theta. Below 2^-16 in size, and so at a zero, it is theta itself, with its sign.
+// The sine of theta. Below 2^-16 in size, and so at a zero, it is theta itself, with its sign. The tests are in the order in which the compiler leaves no jump in
+// the short way.
 pub fn sin(theta: f64) -> f64
     ensures bits { λ v. ⌜ v ≡ sine theta ⌝ }
     ensures near { λ v. ⌜ SinePromise theta v ⌝ }
@@ -30,19 +31,21 @@ pub fn sin(theta: f64) -> f64
         return theta;
     }
     let a = sign::abs(theta);
+    let within = a < 6.283185307179586;
+    if !within {
+        if a < 1.0 / 0.0 {
+            let x = elementary_reduction::reduced(a);
+            let negative = theta < 0.0;
+            return sine_at(x, negative);
+        }
+        return 0.0 / 0.0;
+    }
     if a < 0.0000152587890625 {
         return theta;
     }
+    let x = conversion::from_f64(a);
     let negative = theta < 0.0;
-    if a < 6.283185307179586 {
-        let x = conversion::from_f64(a);
-        return sine_at(x, negative);
-    }
-    if a < 1.0 / 0.0 {
-        let x = elementary_reduction::reduced(a);
-        return sine_at(x, negative);
-    }
-    0.0 / 0.0
+    sine_at(x, negative)
 }
 
 // The cosine of theta.
