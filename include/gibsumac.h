@@ -90,7 +90,7 @@ size_t gibsumac_channel_size(void);
 
 /* Sine and cosine of the exact truncated remainder of theta by 2 pi to 160 binary places: within 2^-40 of the Taylor sum to degree 42 there, for every
  * finite theta. Of a theta below 2^-16 in size the sine is theta; sin(-theta) is -sin(theta), and cos(-theta) is cos(theta). An infinity gives NaN. Beyond one
- * turn a call takes some 10 ns more, and as much again for every 20 binary digits of theta before the point past the first 22. */
+ * turn a call takes longer: up to 2^22 about twice, at 10^9 about three times as long. */
 double gibsumac_sin(double theta);
 double gibsumac_cos(double theta);
 
