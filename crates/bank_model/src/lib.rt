@@ -1,2 +1,4 @@
 // Module 7 of the scope: the values of a bank of three trackers, and in specs/ all that a bank does. There are no functions here.
+#![tactic(auto)]
+
 pub mod state;

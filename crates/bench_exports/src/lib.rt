@@ -1,4 +1,6 @@
 // Functions that bench/ measures and that the C interface does not export, under C names. Nothing else uses this crate.
+#![tactic(auto)]
+
 ghost use Rattle.std.specs.Prelude.{◌≡◌, false};
 ghost use Rattle.std.specs.Float.{binary32, binary64};
 ghost use Rattle.std.specs.Float.Ieee.{to_unsigned};

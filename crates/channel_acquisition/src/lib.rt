@@ -1,4 +1,6 @@
 // Module 9 of the scope: the start of the trackers in a block with a signal.
+#![tactic(auto)]
+
 ghost use Rattle.std.specs.Prelude.{◌≡◌, cond, ◌*◌, ◌/◌, leb};
 ghost use Rattle.channel_model.specs.Opening as opening;
 ghost use Rattle.channel_model.specs.Starting as model;

@@ -1,5 +1,7 @@
 // Runs a text of cases from standard input; the text in this folder says at its head how it is read. What is expected there is written by hand from
 // the scope, not taken from the definitions. For each group it prints its title and how many of its cases hold, and each case that does not.
+#![tactic(auto)]
+
 mod line;
 mod number;
 mod words;

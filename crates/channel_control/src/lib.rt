@@ -1,5 +1,7 @@
 // Module 9 of the scope: assign, release and figures, the calls that take no samples and need a channel.
 // No call asks anything of its caller; what each means is in channel_model.
+#![tactic(auto)]
+
 pub mod assign;
 pub mod figures;
 pub mod release;

@@ -1,4 +1,6 @@
 // Module 9 of the scope: the values of the channel and of its five calls, and in specs/ what the calls mean. There are no functions here.
+#![tactic(auto)]
+
 use bank_model::state::EkfTrackingBank;
 use tracker::state::Tracked;
 

@@ -1,4 +1,6 @@
 // Module 9 of the scope, open: settings are refused by the first of their four faults, or make an idle channel.
+#![tactic(auto)]
+
 ghost use Rattle.std.specs.Prelude.{◌≡◌};
 ghost use Rattle.channel_model.specs.Opening.{bad_rate, bad_ratio, open_refusal, modulation_of, decimated_rate, fade_steps, new_tracker, new_setup, resting_bank, no_carriers, new_channel, refused_settings, opened};
 

@@ -1,5 +1,7 @@
 // A channel led through calls by the letters of a script, for the program that runs cases written by hand.
 // What is set before a call, and what is then looked at; the program's text says what each letter stands for.
+#![tactic(auto)]
+
 pub mod block;
 pub mod letters;
 pub mod look;

@@ -1,6 +1,8 @@
 // Replays lists of calls and built channels that the Rust answered. A line is one call and its answer; it begins with its kind. reference/vectors
 // makes them, and reference/README.md has the words of each kind. The number of each line that differs is printed. What is read and what is decided stand apart:
 // `replay` is a function of the line, the channel and the window memory.
+#![tactic(auto)]
+
 mod blocks;
 mod calls;
 mod lists;

@@ -1,4 +1,6 @@
 // Module 2 of the scope: the angle of the point (x, y), IEEE 754's atan2.
+#![tactic(auto)]
+
 ghost use Rattle.std.specs.Prelude.{◌≡◌};
 ghost use Rattle.elementary_arctangent.specs.Steps.{atan2_of};
 ghost use Rattle.elementary_arctangent.specs.Promise.{Arctangent};

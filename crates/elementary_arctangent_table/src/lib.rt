@@ -1,5 +1,7 @@
 // The coefficients of degree 0 to 5 of the arctangent around k / 64: the f64 nearest to those of the shifted Taylor sum. A match on the number is one load; a
 // const array would be built anew at every use.
+#![tactic(auto)]
+
 ghost use Rattle.std.specs.Prelude.{◌≡◌, ◌<◌};
 ghost use Rattle.elementary_arctangent_table.specs.Table.{arc_entry};
 

@@ -1,4 +1,6 @@
 // Tables by cells: the cell that a number lies in, and what the number is off from the cell's middle. Both ask for the same sum, which the compiler makes once.
+#![tactic(auto)]
+
 ghost use Rattle.std.specs.Prelude.{◌≡◌, not, T};
 ghost use Rattle.std.specs.Float.{binary64};
 ghost use Rattle.std.specs.Float.Ieee.{add, is_nan};

@@ -1,4 +1,6 @@
 // Module 2 of the scope: the common logarithm.
+#![tactic(auto)]
+
 ghost use Rattle.std.specs.Prelude.{◌≡◌};
 ghost use Rattle.elementary_logarithm.specs.Steps.{log10_of};
 ghost use Rattle.elementary_logarithm.specs.Promise.{CommonLogarithm};

@@ -1,4 +1,6 @@
 // The common logarithm's coefficients of degree 0 to 5 around k / 64. A match on the number is one load; a const array would be built anew at every use.
+#![tactic(auto)]
+
 ghost use Rattle.std.specs.Prelude.{◌≡◌, ◌<◌};
 ghost use Rattle.elementary_logarithm_table.specs.Table.{log_entry};
 

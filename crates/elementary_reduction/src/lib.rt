@@ -1,4 +1,6 @@
 // The remainder of a large angle by 2π to 160 binary places.
+#![tactic(auto)]
+
 ghost use Rattle.std.specs.Prelude.{◌≡◌, ◌+◌, ◌*◌, ◌/◌, ◌%◌, ◌^◌, ◌<◌, ◌≤◌};
 ghost use Rattle.std.specs.Float.Ieee.Positive.{num, den};
 ghost use Rattle.elementary_reduction.specs.Reduction as Reduction;

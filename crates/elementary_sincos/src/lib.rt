@@ -1,5 +1,7 @@
 // Module 2 of the scope: sine and cosine of the exact remainder of an angle by 2π to 160 binary places. Within one turn that is the angle. Each function asks
 // for it by itself, so that the short way stays in line.
+#![tactic(auto)]
+
 ghost use Rattle.std.specs.Prelude.{◌≡◌, ◌*◌, ◌^◌, ◌≤◌};
 ghost use Rattle.ieee754.specs.Sign.{signed};
 ghost use Rattle.elementary_sincos.specs.Steps.{sine_series, sine, cosine};

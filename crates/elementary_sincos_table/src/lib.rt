@@ -1,5 +1,7 @@
 // Sine and cosine of k / 4: the f64 nearest to the Taylor sums. A match on the number becomes one load wherever it is asked; a const array would be built anew at
 // every use.
+#![tactic(auto)]
+
 ghost use Rattle.std.specs.Prelude.{◌≡◌, ◌<◌};
 ghost use Rattle.elementary_sincos_table.specs.Table.{sine_entry, cosine_entry};
 

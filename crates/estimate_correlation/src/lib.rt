@@ -1,6 +1,8 @@
 // Module 4 of the scope, its first half: the correlation matrix of the samples at ten lags, row by row.
 // Place k is the ten samples from k on, and lag i there is sample k + 9 - i. The sums of all entries grow together, place by place, so that no
 // addition waits for the one before it. Those below the diagonal follow from those above.
+#![tactic(auto)]
+
 ghost use Rattle.std.specs.Prelude.{◌≡◌, ◌+◌, ◌-◌, ◌*◌, ◌<◌, ◌≤◌, length};
 ghost use Rattle.sums.specs.Interleaved.{at, table};
 ghost use Rattle.estimate_correlation.specs.Correlation.{prepared, correlation_matrix};

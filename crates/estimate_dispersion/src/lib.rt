@@ -1,4 +1,6 @@
 // Module 8 of the scope: what the ionosphere does to two carriers from one satellite.
+#![tactic(auto)]
+
 ghost use Rattle.std.specs.Prelude.{◌≡◌};
 ghost use Rattle.estimate_dispersion.specs.Dispersion.{dispersion_free, electron_content};
 

@@ -1,4 +1,6 @@
 // Module 6 of the scope: the signal-to-noise ratio of interleaved samples, estimated from the second and the fourth moment (M2M4).
+#![tactic(auto)]
+
 ghost use Rattle.std.specs.Prelude.{◌≡◌};
 ghost use Rattle.std.specs.Float.{binary32};
 ghost use Rattle.ieee754.specs.Binary64.{square};

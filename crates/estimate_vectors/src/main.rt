@@ -2,6 +2,8 @@
 // and the frequency, 13 the same of the squares; 6 a list and the ratio in dB; 12 two carriers, two offsets and the offset free of dispersion; 11
 // a block of a bank, of which the frequency and the electron content of a two-frequency answer are compared. reference/vectors makes them, and
 // reference/README.md has the fields. The number of each line that differs is printed.
+#![tactic(auto)]
+
 mod bank;
 
 ghost use Rattle.std.specs.Prelude.{◌≡◌, ◌≤◌};

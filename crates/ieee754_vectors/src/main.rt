@@ -1,5 +1,7 @@
 // Runs the vectors that stand in this crate's stdin and compares. A line is an operation's letter, three arguments and the result, each as
 // 16 hexadecimal digits; make_vectors says where they come from. A vector that differs is printed.
+#![tactic(auto)]
+
 ghost use Rattle.std.specs.Prelude.{◌≡◌};
 ghost use Rattle.ieee754_vectors.specs.Code.Lines.{single, of_one, of_more, line_agrees};
 

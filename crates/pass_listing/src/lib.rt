@@ -1,5 +1,7 @@
 // The list of a pass text, from one descriptor to another (the scope, "The pass text and its list"): the pass takes what is held of the text, what it adds to the
 // list is written, and more of the text is read.
+#![tactic(auto)]
+
 ghost use Rattle.std.specs.Prelude.{◌≡◌};
 ghost use Rattle.pass_transfer.specs.Account.{Accounted, Completed};
 ghost use Rattle.pass_transfer.specs.Code.Standing.{onward, Sizes, Countable, Counted, Placed, Stands};

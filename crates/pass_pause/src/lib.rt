@@ -1,4 +1,5 @@
 // Waiting.
+#![tactic(auto)]
 
 // Waits a hundredth of a second, or until a signal comes.
 pub fn pause() {

@@ -1,5 +1,7 @@
 // The pass text as a stream: the end of a line in a chunk, and the rest that is carried over to the next chunk.
 // The laws that a loop over chunks cites are in proofs/StreamLaws.antt: no border of a chunk can be seen.
+#![tactic(auto)]
+
 ghost use Rattle.std.specs.Prelude.{◌≡◌, ◌++◌, ◌+◌, ◌-◌, ◌≤◌, length, take, drop};
 ghost use Rattle.pass_stream.specs.Code.Carrying.{line_length, carried};
 

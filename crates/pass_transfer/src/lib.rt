@@ -1,6 +1,8 @@
 // One write or one read at a time, and where the stream of a pass text stands between them (the scope, "The pass text and its list"): what is made of the list is
 // written, and more of the text is read. That the two calls of the system bring and take these very bytes no contract can say; it is seen in `read_once`,
 // `write_once` and `write_waiting`, three lines each.
+#![tactic(auto)]
+
 ghost use Rattle.std.specs.Prelude.{cond, List, ◌≡◌, ℕ, ◌+◌, ◌-◌, ◌≤◌, ◌<◌, length, take};
 ghost use Rattle.pass_writer.specs.Code.Buffers.{longest};
 ghost use Rattle.pass_setup.specs.Listing.{Run};

@@ -1,5 +1,7 @@
 // The list of a pass text made turn by turn: what is held of the text goes in, and what is to be written and what is then held come out. Nothing here reads
 // or writes; `pass_transfer` does.
+#![tactic(auto)]
+
 ghost use Rattle.std.specs.Prelude.{◌≡◌, List, ◌++◌, ℕ, ◌≤◌, ◌+◌, Float, length, take};
 ghost use Rattle.pass_writer.specs.Code.Buffers.{longest};
 ghost use Rattle.pass_setup.specs.Listing.{list_after};

@@ -1,4 +1,6 @@
 // Module 5 of the scope: what a raw block holds, as the flag that a block call takes.
+#![tactic(auto)]
+
 ghost use Rattle.std.specs.Prelude.{◌≡◌, ◌||◌};
 ghost use Rattle.sequences.specs.Pairs.{pairs};
 ghost use Rattle.survey.specs.Survey.{not_aNumber, clipped, signal, survey_of};

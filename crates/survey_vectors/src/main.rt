@@ -1,5 +1,7 @@
 // Replays answers of the Rust's raw scan: each line is its kind, a count, so many f32, and the flag. reference/vectors makes them. The number
 // of each line that differs is printed.
+#![tactic(auto)]
+
 ghost use Rattle.std.specs.Prelude.{◌≡◌, ◌≤◌};
 ghost use Rattle.survey_vectors.specs.Code.Lines.{flag_of, samples_agree, line_agrees};
 

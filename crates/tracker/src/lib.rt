@@ -1,4 +1,6 @@
 // Module 3 of the scope: the carrier tracker, an extended Kalman filter with phase, frequency and chirp of two channels as its states.
+#![tactic(auto)]
+
 pub mod correction;
 pub mod first;
 pub mod lock;

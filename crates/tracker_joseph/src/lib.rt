@@ -1,5 +1,7 @@
 // Module 3 of the scope: the covariance after a correction: the floor, then Joseph's form. It stands twice, the same but for the place of the channel's
 // phase: with a constant there all of it is compiled in one piece, without copies.
+#![tactic(auto)]
+
 ghost use Rattle.std.specs.Prelude.{◌≡◌};
 ghost use Rattle.tracker_covariance.specs.Correction.{joseph_left, joseph_right, corrected};
 

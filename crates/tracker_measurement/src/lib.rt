@@ -1,4 +1,6 @@
 // Module 3 of the scope, the measurement: what one sample says to a tracker.
+#![tactic(auto)]
+
 pub mod angle;
 pub mod measure;
 pub mod modulation;

@@ -1,4 +1,6 @@
 // Module 3 of the scope, the power ratio: a ring of 1,024 pairs (absolute I, Q squared) in lent memory, the sums over them, and their ratio.
+#![tactic(auto)]
+
 ghost use Rattle.std.specs.Prelude.{◌≡◌, length};
 ghost use Rattle.tracker_power_ratio.specs.Ring.{later};
 ghost use Rattle.tracker_power_ratio.specs.PowerRatio.{not_negative, moved_sum, pushed, ratio};

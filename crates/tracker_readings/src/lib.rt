@@ -1,4 +1,6 @@
 // Modules 7 and 9 of the scope: what is read from a tracker, its frequencies in hertz and its phase.
+#![tactic(auto)]
+
 ghost use Rattle.std.specs.Prelude.{◌≡◌};
 ghost use Rattle.tracker_readings.specs.Readings.{scale, hertz, phase_at};
 

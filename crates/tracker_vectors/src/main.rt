@@ -1,6 +1,8 @@
 // Replays answers of the Rust's tracker: prediction, correction, updates for one frequency and two, and reset, on built values. A line begins
 // with its kind; reference/vectors makes them, and reference/README.md has the fields of each kind. The number of each line that differs is
 // printed.
+#![tactic(auto)]
+
 mod after;
 mod before;
 mod steps;

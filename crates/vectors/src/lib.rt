@@ -1,5 +1,7 @@
 // Outside vectors: a line of standard input is read into lent numbers, in one place (`next_line`), and all that is asked of a line is a function of
 // these numbers (`line`). A word for many numbers is `mix`; how many lines differ is counted and said by `tally`.
+#![tactic(auto)]
+
 pub mod line;
 pub mod mix;
 pub mod tally;
