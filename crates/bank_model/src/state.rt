@@ -2,7 +2,7 @@
 use tracker::state::Tracked;
 
 // Three trackers with their covariances. The active one is 0, 1 or 2, and 3 for none.
-#[derive(Drop)]
+#[derive(Clone, Copy)]
 pub struct EkfTrackingBank {
     pub t0: Tracked,
     pub t1: Tracked,
@@ -15,7 +15,7 @@ pub struct EkfTrackingBank {
 }
 
 // Tracker 0 to 1, 1 to 2, 2 to 0.
-#[derive(Drop)]
+#[derive(Clone, Copy)]
 pub struct FrequencyDiffs {
     pub d01: f32,
     pub d12: f32,

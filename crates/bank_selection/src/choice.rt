@@ -6,7 +6,7 @@ use bank_model::state::EkfTrackingBank;
 use tracker::state::{CarrierPllEkf, Tracked};
 
 // A tracker's number and its metric.
-#[derive(Drop)]
+#[derive(Clone, Copy)]
 struct Candidate {
     number: u64,
     metric: f64,

@@ -4,7 +4,7 @@ use channel_model::Answer;
 
 // What open and assign return.
 #[repr(C)]
-#[derive(Drop)]
+#[derive(Clone, Copy)]
 pub struct PlainReturned {
     pub refusal: u64,
     pub channel: PlainChannel,
@@ -12,7 +12,7 @@ pub struct PlainReturned {
 
 // What block returns.
 #[repr(C)]
-#[derive(Drop)]
+#[derive(Clone, Copy)]
 pub struct PlainBlocked {
     pub answer: Answer,
     pub channel: PlainChannel,
@@ -20,7 +20,7 @@ pub struct PlainBlocked {
 
 // What figures returns.
 #[repr(C)]
-#[derive(Drop)]
+#[derive(Clone, Copy)]
 pub struct TwelveFigures {
     pub values: [f32; 12],
 }

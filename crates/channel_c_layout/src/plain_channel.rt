@@ -9,7 +9,7 @@ use channel_model::{Carriers, Channel, Reading, Setup, Status};
 
 // A channel, with a mark for its status and its bank's fields beside its own.
 #[repr(C)]
-#[derive(Drop)]
+#[derive(Clone, Copy)]
 pub struct PlainChannel {
     pub setup: Setup,
     pub idle: bool,

@@ -9,7 +9,7 @@ use tracker_power_ratio::PowerSums;
 
 // A tracker and its covariance, with a number for the modulation.
 #[repr(C)]
-#[derive(Drop)]
+#[derive(Clone, Copy)]
 pub struct PlainTracker {
     pub modulation: u64,
     pub tuning: Tuning,

@@ -12,7 +12,7 @@ ghost use Rattle.channel_cases.specs.Code.Groups.{one_more, with_case};
 use libc::STDOUT_FILENO;
 
 // A group so far: whether a title started it, its cases, and those that hold.
-#[derive(Drop)]
+#[derive(Clone, Copy)]
 struct Group {
     titled: bool,
     good: u64,

@@ -6,7 +6,7 @@ use ieee754::pattern::f64_from_bits;
 use vectors::with_digit;
 
 // The digits so far as a whole number, the power of ten of those after the point, and the sign.
-#[derive(Drop)]
+#[derive(Clone, Copy)]
 struct Decimal {
     negative: bool,
     point: bool,

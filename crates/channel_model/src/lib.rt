@@ -6,7 +6,7 @@ use tracker::state::Tracked;
 
 // What open takes.
 #[repr(C)]
-#[derive(Drop)]
+#[derive(Clone, Copy)]
 pub struct Settings {
     pub rate: u64,
     pub factor: u64,
@@ -21,7 +21,7 @@ pub struct Settings {
 
 // What opening settles and no call changes.
 #[repr(C)]
-#[derive(Drop)]
+#[derive(Clone, Copy)]
 pub struct Setup {
     pub rate: u64,
     pub factor: u64,
@@ -29,7 +29,7 @@ pub struct Setup {
     pub two: bool,
 }
 
-#[derive(Drop)]
+#[derive(Clone, Copy)]
 pub enum Status {
     Idle,
     Assigned,
@@ -37,7 +37,7 @@ pub enum Status {
 
 // What assign sets, in Hz.
 #[repr(C)]
-#[derive(Drop)]
+#[derive(Clone, Copy)]
 pub struct Carriers {
     pub nominal: f64,
     pub target: f64,
@@ -47,7 +47,7 @@ pub struct Carriers {
 
 // What a block's answer shows of the signal.
 #[repr(C)]
-#[derive(Drop)]
+#[derive(Clone, Copy)]
 pub struct Reading {
     pub phase: f64,
     pub frequency: f64,
@@ -55,7 +55,7 @@ pub struct Reading {
     pub electrons: f64,
 }
 
-#[derive(Drop)]
+#[derive(Clone, Copy)]
 pub struct Channel {
     pub setup: Setup,
     pub status: Status,
@@ -70,7 +70,7 @@ pub struct Channel {
 
 // A block's answer. The tracker is 3 for none.
 #[repr(C)]
-#[derive(Drop)]
+#[derive(Clone, Copy)]
 pub struct Answer {
     pub refusal: u64,
     pub locked: bool,
@@ -86,14 +86,14 @@ pub struct Answer {
 }
 
 // What open and assign return: a refusal number, 0 where the call is accepted, and the channel.
-#[derive(Drop)]
+#[derive(Clone, Copy)]
 pub struct Returned {
     pub refusal: u64,
     pub channel: Channel,
 }
 
 // What block returns.
-#[derive(Drop)]
+#[derive(Clone, Copy)]
 pub struct Blocked {
     pub answer: Answer,
     pub channel: Channel,

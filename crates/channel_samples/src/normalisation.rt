@@ -3,7 +3,7 @@ ghost use Rattle.std.specs.Prelude.{◌≡◌};
 ghost use Rattle.channel_samples.specs.Normalisation.{unit, normalised};
 
 // A pair of components.
-#[derive(Drop)]
+#[derive(Clone, Copy)]
 pub struct Pair(pub f32, pub f32);
 
 // The pair divided by its size, or (0, 0) where that is not above 1e-6 or is a NaN.

@@ -11,7 +11,7 @@ use channel_block::block::block;
 use channel_model::{Answer, Blocked, Channel};
 
 // What a block gave back: the channel, the answer, and of the memory that was lent what is looked at.
-#[derive(Drop)]
+#[derive(Clone, Copy)]
 pub struct Left {
     pub channel: Channel,
     pub answer: Answer,

@@ -14,7 +14,7 @@ use channel_model::{Answer, Carriers, Channel, Returned, Settings};
 
 // A block to come: its flag, how many numbers its lists and its window memory have, and what stands in them. The first list begins with re and
 // im, the second with other; all else in the lists is fill. With jumps the first list has 4,096 samples that no tracker follows.
-#[derive(Drop)]
+#[derive(Clone, Copy)]
 pub struct Lists {
     pub flag: u64,
     pub first: usize,
@@ -28,7 +28,7 @@ pub struct Lists {
 }
 
 // What is set for the calls to come.
-#[derive(Drop)]
+#[derive(Clone, Copy)]
 pub struct Plan {
     pub settings: Settings,
     pub carriers: Carriers,
@@ -38,7 +38,7 @@ pub struct Plan {
 }
 
 // What the calls so far showed.
-#[derive(Drop)]
+#[derive(Clone, Copy)]
 pub struct Seen {
     // The number that the last open or assign answered.
     pub number: u64,
@@ -58,7 +58,7 @@ pub struct Seen {
 }
 
 // In parts, so that a function takes no more than it needs.
-#[derive(Drop)]
+#[derive(Clone, Copy)]
 pub struct Session {
     // Whether every letter so far stood for something.
     pub known: bool,

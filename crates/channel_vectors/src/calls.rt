@@ -12,7 +12,7 @@ use channel_words::standing::channel_stands;
 use vectors::line::{ends, rest, samples_stand, stands};
 
 // The channel after a line, and whether the answer was the Rust's.
-#[derive(Drop)]
+#[derive(Clone, Copy)]
 pub struct After {
     pub channel: Channel,
     pub agrees: bool,

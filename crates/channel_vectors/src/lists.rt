@@ -7,7 +7,7 @@ use channel_words::arguments::rule_in;
 use vectors::line::{number, samples};
 
 // Whether the line is taken, how many numbers each list has, and the place behind them.
-#[derive(Drop)]
+#[derive(Clone, Copy)]
 pub struct Lists {
     pub taken: bool,
     pub first: usize,

@@ -5,7 +5,7 @@ ghost use Rattle.channel_words.specs.Code.Rules.{next_noise, noise_of, first_tur
 use ieee754::conversion::{f64_to_f32, u64_to_f64};
 
 // The first pair, the cosine and sine of the angle from one pair to the next, the size of the noise and the number that it begins with.
-#[derive(Drop)]
+#[derive(Clone, Copy)]
 pub struct Rule {
     pub re: f64,
     pub im: f64,
@@ -16,7 +16,7 @@ pub struct Rule {
 }
 
 // The carrier at a pair, and the noise's number before it.
-#[derive(Drop)]
+#[derive(Clone, Copy)]
 pub struct Turn {
     pub re: f64,
     pub im: f64,

@@ -2,7 +2,7 @@
 ghost use Rattle.std.specs.Prelude.{◌≡◌, ◌+◌, ◌-◌, ◌*◌, ◌/◌, ◌^◌, ◌<◌, ◌≤◌};
 ghost use Rattle.elementary_reduction.specs.Code.Limbs.{limbs, value, Held};
 
-#[derive(Drop)]
+#[derive(Clone, Copy)]
 pub struct Rest {
     pub w0: u64,
     pub w1: u64,

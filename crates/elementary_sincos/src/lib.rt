@@ -72,7 +72,7 @@ pub fn cos(theta: f64) -> f64
     series::cosine(x2, x4)
 }
 
-#[derive(Drop)]
+#[derive(Clone, Copy)]
 pub struct SinCos {
     pub sin: f64,
     pub cos: f64,

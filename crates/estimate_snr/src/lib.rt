@@ -8,7 +8,7 @@ ghost use Rattle.sums.specs.Complex.{norm_sqr};
 ghost use Rattle.estimate_snr.specs.MomentEstimate.{mean, signal_power, decibels, snr_of};
 
 // The mean power of the samples, and the mean square of the power.
-#[derive(Drop)]
+#[derive(Clone, Copy)]
 struct Moments {
     m2: f64,
     m4: f64,

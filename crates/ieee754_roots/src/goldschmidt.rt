@@ -3,7 +3,7 @@ ghost use Rattle.std.specs.Prelude.{◌≡◌};
 ghost use Rattle.ieee754_roots.specs.Code.Goldschmidt.{refinement};
 
 // A root, and half the inverse of it.
-#[derive(Drop)]
+#[derive(Clone, Copy)]
 pub struct Estimate {
     pub root: f64,
     pub half: f64,

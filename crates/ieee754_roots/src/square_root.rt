@@ -8,7 +8,7 @@ ghost use Rattle.ieee754.specs.Code.WholeRoot.{NearestRoot};
 use crate::goldschmidt::{Estimate, refined};
 
 // The digits of a root so far, and what is left of the number: q * q + rest is the number's part so far.
-#[derive(Drop)]
+#[derive(Clone, Copy)]
 struct Part {
     q: u64,
     rest: u64,

@@ -11,7 +11,7 @@ use pass_setup::pass::Pass;
 use pass_transfer::{Account, Next, State};
 
 // A pass after a turn, and where the stream then stands.
-#[derive(Drop)]
+#[derive(Clone, Copy)]
 pub struct Went {
     pub pass: Pass,
     pub state: State,

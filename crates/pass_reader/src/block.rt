@@ -10,7 +10,7 @@ ghost use Rattle.pass_reader.specs.Lines.{whole_pairs, bits_of, samples_of, two_
 ghost use Rattle.pass_reader.specs.Code.Answers.{read_into, block_said};
 
 // A block's flag, and how many components were written to the front of the lent buffer.
-#[derive(Drop)]
+#[derive(Clone, Copy)]
 pub enum BlockRead {
     Taken { flag: u64, count: usize },
     Refused,

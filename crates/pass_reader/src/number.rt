@@ -4,7 +4,7 @@ ghost use Rattle.pass_reader.specs.Numbers.{digit_value, number_of, decimal_shap
 ghost use Rattle.pass_reader.specs.Code.Answers.{value_in};
 
 // A number, or none where the bytes write no number.
-#[derive(Drop)]
+#[derive(Clone, Copy)]
 pub enum Number {
     Value(u64),
     NoValue,

@@ -6,7 +6,7 @@ ghost use Rattle.pass_reader.specs.Lines.{decimals, nine_values, values_line};
 ghost use Rattle.pass_reader.specs.Code.Answers.{values_said};
 
 // The values in the order of their names.
-#[derive(Drop)]
+#[derive(Clone, Copy)]
 pub struct Values {
     pub rate: u64,
     pub factor: u64,
@@ -19,7 +19,7 @@ pub struct Values {
     pub target: u64,
 }
 
-#[derive(Drop)]
+#[derive(Clone, Copy)]
 pub enum ValuesRead {
     Read(Values),
     Outside,

@@ -6,7 +6,7 @@ ghost use Rattle.pass_setup.specs.Code.Buffers.{printed, as_printed};
 use channel_model::Channel;
 
 // Which line comes next.
-#[derive(Drop)]
+#[derive(Clone, Copy)]
 pub enum Stage {
     Names,
     Values,
@@ -16,7 +16,7 @@ pub enum Stage {
 }
 
 // How many lines and blocks there were, and the channel.
-#[derive(Drop)]
+#[derive(Clone, Copy)]
 pub struct Pass {
     pub stage: Stage,
     pub line: u64,
@@ -25,14 +25,14 @@ pub struct Pass {
 }
 
 // The pass after a line, and the place in the list's buffer after what the line added.
-#[derive(Drop)]
+#[derive(Clone, Copy)]
 pub struct Judged {
     pub pass: Pass,
     pub at: usize,
 }
 
 // How far a run over a chunk has come: the pass, how many bytes are used, and the place after what waits in the list's buffer.
-#[derive(Drop)]
+#[derive(Clone, Copy)]
 pub struct Ran {
     pub pass: Pass,
     pub used: usize,

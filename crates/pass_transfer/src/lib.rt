@@ -11,7 +11,7 @@ ghost use Rattle.pass_transfer.specs.Code.Standing.{got_of, Brought, error_of, i
 
 // What comes when all that is made of the list is written: more of the text is read; the lines that are held are taken; the text has ended, and what is held of
 // a line is all that is left; or nothing, since a line was refused, since the list is at its end, or since a read failed.
-#[derive(Drop)]
+#[derive(Clone, Copy)]
 pub enum Next {
     Read,
     Turn,
@@ -22,7 +22,7 @@ pub enum Next {
 }
 
 // What a read brought.
-#[derive(Drop)]
+#[derive(Clone, Copy)]
 pub enum Got {
     Bytes(usize),
     End,
@@ -31,7 +31,7 @@ pub enum Got {
 
 // Where the stream stands. `left` bytes of the text are held at the front of its buffer; of the `at` bytes at the front of the list's buffer the first `from`
 // are written. `error` is that of a read that failed; `stuck` says that a write failed. `read` and `written` count bytes.
-#[derive(Drop)]
+#[derive(Clone, Copy)]
 pub struct State {
     pub left: usize,
     pub from: usize,
@@ -45,7 +45,7 @@ pub struct State {
 
 // What a run answers for: the bytes that came, those that went, and those of the list that could not be written; what comes next, the error of a read that
 // failed, whether a write failed, and how many turns were left.
-#[derive(Drop)]
+#[derive(Clone, Copy)]
 pub struct Account {
     pub read: usize,
     pub written: usize,

@@ -13,7 +13,7 @@ use pass_transfer::Next;
 
 // The pass, the `left` bytes of the text that are held at the front of the text's buffer, the `at` bytes at the front of the list's buffer that are to be
 // written, and what comes then.
-#[derive(Drop)]
+#[derive(Clone, Copy)]
 pub struct Flow {
     pub pass: Pass,
     pub left: usize,

@@ -4,7 +4,7 @@ ghost use Rattle.pass_writer.specs.Lines.{names_text, block_text, refusal_text, 
 ghost use Rattle.pass_writer.specs.Code.Buffers.{longest, written, Wrote};
 
 // What the list shows of a block's answer.
-#[derive(Drop)]
+#[derive(Clone, Copy)]
 pub struct Shown {
     pub locked: bool,
     pub tracker: u64,

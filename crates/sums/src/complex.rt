@@ -3,7 +3,7 @@ ghost use Rattle.std.specs.Prelude.{◌≡◌};
 ghost use Rattle.std.specs.Float.{binary64};
 ghost use Rattle.sums.specs.Complex.{mul_c, norm_sqr};
 
-#[derive(Drop)]
+#[derive(Clone, Copy)]
 pub struct Complex(pub f64, pub f64);
 
 // (a + ib) (c + id)

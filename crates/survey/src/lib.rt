@@ -7,7 +7,7 @@ ghost use Rattle.survey.specs.Survey.{not_aNumber, clipped, signal, survey_of};
 ghost use Rattle.survey.specs.Code.Flag.{flag_of};
 
 // What was seen in the pairs so far.
-#[derive(Drop)]
+#[derive(Clone, Copy)]
 struct Seen {
     not_a_number: bool,
     clipped: bool,

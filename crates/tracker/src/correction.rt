@@ -13,14 +13,14 @@ use tracker_measurement::modulation::{Modulation, wrap};
 use tracker_power_ratio::push;
 
 // What a correction answers: the in-phase value and the power ratio, or that the tracker was lost.
-#[derive(Drop)]
+#[derive(Clone, Copy)]
 pub enum Correction {
     Kept(f64, f64),
     Lost,
 }
 
 // A corrected tracker with its covariance, and the answer beside them.
-#[derive(Drop)]
+#[derive(Clone, Copy)]
 pub struct Corrected {
     pub ekf: CarrierPllEkf,
     pub p: [f64; 36],

@@ -19,7 +19,7 @@ use tracker_measurement::noise::{effective_noise, envelope_of};
 use tracker_measurement::sample::{amplitude_of, derotate, used_sample};
 
 // What a correction takes of a sample: the innovation, wrapped; R; the envelope with this sample in it.
-#[derive(Drop)]
+#[derive(Clone, Copy)]
 pub struct Innovation {
     pub z: f64,
     pub r_effective: f64,

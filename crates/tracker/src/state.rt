@@ -9,7 +9,7 @@ use tracker_power_ratio::PowerSums;
 
 // What a tracker is opened with beside its modulation: the source's noise figures, its own interval, the ratio of the two frequencies and two switches.
 #[repr(C)]
-#[derive(Drop)]
+#[derive(Clone, Copy)]
 pub struct Tuning {
     pub q_phase: f64,
     pub q_freq: f64,
@@ -23,7 +23,7 @@ pub struct Tuning {
 
 // A tracker: what it is opened with, and then its states, envelope, power sums and lock. The window of power pairs is lent memory; power says where in it the
 // tracker is.
-#[derive(Drop)]
+#[derive(Clone, Copy)]
 pub struct CarrierPllEkf {
     pub modulation: Modulation,
     pub tuning: Tuning,
@@ -36,7 +36,7 @@ pub struct CarrierPllEkf {
 }
 
 // A tracker and the 36 covariance numbers that travel with it.
-#[derive(Drop)]
+#[derive(Clone, Copy)]
 pub struct Tracked {
     pub ekf: CarrierPllEkf,
     pub p: [f64; 36],

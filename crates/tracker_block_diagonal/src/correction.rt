@@ -12,7 +12,7 @@ use crate::prediction::is_finite;
 use tracker_covariance::correction::floor_variance;
 
 // What a correction gives: whether the halves stay apart and a gain is taken, that gain, and the halves after it.
-#[derive(Drop)]
+#[derive(Clone, Copy)]
 pub struct CorrectedHalves {
     pub apart: bool,
     pub k: Gain,

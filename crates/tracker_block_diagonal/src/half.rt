@@ -1,7 +1,7 @@
 // The covariance as two halves, and the gain of the first.
 
 // The covariances of one channel's phase, frequency and chirp, row by row.
-#[derive(Drop)]
+#[derive(Clone, Copy)]
 pub struct Half {
     pub pp: f64,
     pub pf: f64,
@@ -15,14 +15,14 @@ pub struct Half {
 }
 
 // Both channels, with no covariance between them.
-#[derive(Drop)]
+#[derive(Clone, Copy)]
 pub struct Halves {
     pub first: Half,
     pub second: Half,
 }
 
 // What a correction by the first channel's phase takes of the innovation into that channel's states. The second channel's gain is 0.
-#[derive(Drop)]
+#[derive(Clone, Copy)]
 pub struct Gain {
     pub p: f64,
     pub f: f64,

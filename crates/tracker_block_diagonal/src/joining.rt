@@ -7,7 +7,7 @@ use crate::half::{Half, Halves};
 use ieee754::pattern::f64_to_bits;
 
 // Whether a covariance falls into halves, and those.
-#[derive(Drop)]
+#[derive(Clone, Copy)]
 pub struct Parted {
     pub apart: bool,
     pub halves: Halves,

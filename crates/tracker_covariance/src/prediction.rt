@@ -8,7 +8,7 @@ ghost use Rattle.tracker_covariance.specs.Code.Transposed.{transposed};
 use ieee754::sign::abs;
 
 // What one step adds to the variances of the first channel's phase, frequency and chirp, and the second frequency over the first.
-#[derive(Drop)]
+#[derive(Clone, Copy)]
 pub struct ProcessNoise {
     pub q_p: f64,
     pub q_f: f64,

@@ -5,7 +5,7 @@ ghost use Rattle.tracker_covariance.specs.Transition.{predicted_state};
 ghost use Rattle.tracker_covariance.specs.Correction.{corrected_state};
 
 // The channel that a correction is for. An enum, so that no index has to be promised.
-#[derive(Drop)]
+#[derive(Clone, Copy)]
 pub enum Band {
     First,
     Second,

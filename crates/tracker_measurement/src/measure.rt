@@ -9,7 +9,7 @@ use crate::sample::{amplitude_of, derotate, fold, used_sample};
 use ieee754::sign::abs;
 
 // What is known before the sample.
-#[derive(Drop)]
+#[derive(Clone, Copy)]
 pub struct Prior {
     pub modulation: Modulation,
     pub theta_pred: f64,
@@ -19,7 +19,7 @@ pub struct Prior {
 }
 
 // The innovation, wrapped; the in-phase value; the pair for the power ratio; the envelope with this sample in it; R.
-#[derive(Drop)]
+#[derive(Clone, Copy)]
 pub struct Measured {
     pub z: f64,
     pub norm_re: f64,

@@ -5,7 +5,7 @@ ghost use Rattle.tracker_measurement.specs.Phase.{limit, half_limit, wrapped};
 
 use ieee754::remainder::rem_euclid;
 
-#[derive(Drop)]
+#[derive(Clone, Copy)]
 pub enum Modulation {
     Carrier,
     Bpsk,

@@ -7,7 +7,7 @@ use ieee754::sign::abs;
 use ieee754_roots::hypotenuse::hypot;
 
 // A complex number.
-#[derive(Drop)]
+#[derive(Clone, Copy)]
 pub struct Point {
     pub re: f64,
     pub im: f64,

@@ -11,7 +11,7 @@ use tracker_measurement::noise::{effective_noise, envelope_of};
 use tracker_measurement::sample::{Point, amplitude_of, derotate, fold, used_sample};
 
 // The sample turned back by the predicted phase; the envelope with the sample in it; R, the variance that it is measured with.
-#[derive(Drop)]
+#[derive(Clone, Copy)]
 pub struct Received {
     pub point: Point,
     pub envelope_ema: f64,
@@ -35,7 +35,7 @@ pub fn receive(prior: Prior, re: f32, im: f32) -> Received
 }
 
 // What the phase detector gives: the phase error, and wrapped, the innovation; the pair for the power ratio.
-#[derive(Drop)]
+#[derive(Clone, Copy)]
 pub struct Detected {
     pub error: f64,
     pub z: f64,

@@ -31,7 +31,7 @@ fn step_apart(h: Single, w: &mut [f64], re: f32, im: f32, dt: f64) -> Updated
 }
 
 // The tracker and the place of the next sample.
-#[derive(Drop)]
+#[derive(Clone, Copy)]
 pub struct Reached {
     pub tracker: Single,
     pub at: usize,

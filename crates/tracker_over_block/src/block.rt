@@ -23,7 +23,7 @@ fn end_of(two: bool, a: usize, b: usize) -> usize
 }
 
 // A sample of the second list.
-#[derive(Drop)]
+#[derive(Clone, Copy)]
 struct Pair(f32, f32);
 
 // The one at place i; (0, 0), which is not looked at, where there is one list.
@@ -63,7 +63,7 @@ fn follow_from(
 }
 
 // The tracker and the place of the next sample.
-#[derive(Drop)]
+#[derive(Clone, Copy)]
 struct Begun {
     h: Tracked,
     at: usize,

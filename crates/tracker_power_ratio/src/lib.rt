@@ -7,7 +7,7 @@ ghost use Rattle.tracker_power_ratio.specs.PowerRatio.{not_negative, moved_sum, 
 
 // The pairs pushed since the last reset, up to 2,047 and then from 1,024 on again; and the sums over the latest 1,024 of them.
 #[repr(C)]
-#[derive(Drop)]
+#[derive(Clone, Copy)]
 pub struct PowerSums {
     pub pushed: usize,
     pub sum_abs_i: f64,

@@ -9,7 +9,7 @@ use tracker::state::CarrierPllEkf;
 use vectors::line::{floats_stand, rest, stands};
 
 // A tracker, its covariance, and the pair in the window's slot of the last pair.
-#[derive(Drop)]
+#[derive(Clone, Copy)]
 pub struct After {
     pub ekf: CarrierPllEkf,
     pub p: [f64; 36],
@@ -18,14 +18,14 @@ pub struct After {
 }
 
 // The same beside what a correction answered.
-#[derive(Drop)]
+#[derive(Clone, Copy)]
 pub struct Answered {
     pub answer: Correction,
     pub after: After,
 }
 
 // The same beside 1, or 0 where a correction was lost.
-#[derive(Drop)]
+#[derive(Clone, Copy)]
 pub struct Marked {
     pub kept: u64,
     pub after: After,

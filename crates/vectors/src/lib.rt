@@ -50,7 +50,7 @@ pub fn word_at(line: &[u8], a: usize) -> u64
 }
 
 // What standard input has next: 16 digits and the byte that parts them from what follows, a newline at the end of a line.
-#[derive(Drop)]
+#[derive(Clone, Copy)]
 struct Item {
     there: bool,
     value: u64,

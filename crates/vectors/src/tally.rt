@@ -4,7 +4,7 @@ ghost use Rattle.vectors.specs.Code.Counts.{one_more, with_line};
 
 use libc::STDOUT_FILENO;
 
-#[derive(Drop)]
+#[derive(Clone, Copy)]
 pub struct Tally {
     pub lines: u64,
     pub differ: u64,

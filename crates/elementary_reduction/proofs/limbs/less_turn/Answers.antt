@@ -1,0 +1,12 @@
+-- `limbs::less_turn` meets its contract.
+use borrow.Author.Rules.{rules}
+use Rattle.elementary_reduction.proofs.TurnLimbs.{stays, goes}
+use Rattle.elementary_reduction.proofs.limbs.less_turn.Goals as goal
+
+pub returns-then-s3-le-TURN3 : goal.returns-then-s3-le-TURN3
+returns-then-s3-le-TURN3 c =
+    stays c.args.w0 c.args.w1 c.args.w2 c.args.w3 c.requires.0 c.requires.1 c.requires.2 c.requires.3 c.column-s0.result c.column-s1.result c.column-s2.result c.column-s0.ensures c.column-s1.ensures c.column-s2.ensures c.if-s3-le-TURN3.true
+
+pub returns : goal.returns
+returns c =
+    goes c.args.w0 c.args.w1 c.args.w2 c.args.w3 c.requires.0 c.requires.1 c.requires.2 c.requires.3 c.column-s0.result c.column-s1.result c.column-s2.result c.column-s0.ensures c.column-s1.ensures c.column-s2.ensures c.if-s3-le-TURN3.false

@@ -1,0 +1,26 @@
+-- `survey::survey` meets its contract: at each turn a mark, or a pair that is left and passes its test, is what the whole list has. Assumes nothing.
+use mathlib.Core.Path.{◌≡◌, refl, sym, ap, ◌∙◌}
+use mathlib.Core.Bool.{Bool, true, false, ◌||◌}
+use mathlib.Core.List.{List, [], ◌∷◌}
+use Prim.Native.Nat.{ℕ, ◌+◌, ◌-◌, ◌≤◌, ◌<◌}
+use native.Mathlib.Omega.{arith}
+use borrow.Author.Rules.{rules}
+use lib.ListN.{length, get_or, drop}
+use lib.Ieee.{Float, nan}
+use Rattle.sequences.specs.Pairs.{pairs}
+use Rattle.sequences.specs.Folds.{some}
+use Rattle.sequences.proofs.PairLaws.{pairs_next, pairs_none, some_pairs_next, some_pairs_end}
+use Rattle.survey.specs.Survey.{not_aNumber, clipped, signal, survey_of}
+use Rattle.survey.specs.Code.Flag.{flag_of}
+use Rattle.survey.proofs.survey.Given as goal
+
+-- what the whole list has, of one test
+abbrev pub Left : (Float × Float → Bool) → List Float → Bool → ℕ → Type 0
+Left p xs m i = (m || some p (pairs (drop i xs))) ≡ some p (pairs xs)
+
+abbrev pub invariant-loop-i : goal.invariant-loop-i
+invariant-loop-i l =
+    Left not_aNumber l.samples l.m.not_a_number l.i × Left clipped l.samples l.m.clipped l.i × Left signal l.samples l.m.signal l.i × (l.i ≤ length l.samples)
+
+abbrev pub decreases-loop-i : goal.decreases-loop-i
+decreases-loop-i l = length l.samples - l.i

@@ -1,0 +1,15 @@
+-- `correct_first` is the floor and then Joseph's form, from what its parts ensure.
+use mathlib.Core.Path.{ap, ◌∙◌}
+use mathlib.Core.List.{List}
+use lib.Ieee.{Float}
+use borrow.Author.Rules.{rules}
+use Rattle.tracker_covariance.specs.Correction.{joseph_left, joseph_right, corrected}
+use Rattle.tracker_joseph.proofs.correct_first.Goals as goal
+
+pub returns : goal.returns
+unfolding corrected
+returns c =
+    let a = c.args in
+    c.right_of_first.ensures
+    ∙ ap (λ (t : List Float). joseph_right t 0 a.k a.noise)
+    (c.left_of_first-t.ensures ∙ ap (λ (p : List Float). joseph_left p 0 a.k) c.floor_diagonal-f.ensures)
