@@ -23,25 +23,25 @@ use Rattle.channel_model.specs.Starting.{starts, chunk, squares, start_frequency
 
 -- ---- whether it starts
 
-starts_by_lem : Channel → Bool → Bool → Bool
-starts_by_lem c locked ever = not locked && (not ever || lt c.last_snr (of_bits binary32 0))
+starts_by : Channel → Bool → Bool → Bool
+starts_by c locked ever = not locked && (not ever || lt c.last_snr (of_bits binary32 0))
 
-starts_by : (c : Channel) (locked ever : Bool) → c.pll.ekf.is_locked ≡ locked → c.ever_locked ≡ ever → starts_by_lem c locked ever ≡ starts c
-unfolding starts starts_by_lem
-starts_by c locked ever e f = λ i. starts_by_lem c (sym e i) (sym f i)
+starts_by_lem : (c : Channel) (locked ever : Bool) → c.pll.ekf.is_locked ≡ locked → c.ever_locked ≡ ever → starts_by c locked ever ≡ starts c
+unfolding starts starts_by
+starts_by_lem c locked ever e f = λ i. starts_by c (sym e i) (sym f i)
 
 module _ (c : Channel) where
   pub is_locked : c.pll.ekf.is_locked ≡ true → false ≡ starts c
-  unfolding starts_by_lem
-  is_locked e = starts_by c true c.ever_locked e refl
+  unfolding starts_by
+  is_locked e = starts_by_lem c true c.ever_locked e refl
 
   pub never_locked : c.pll.ekf.is_locked ≡ false → c.ever_locked ≡ false → true ≡ starts c
-  unfolding starts_by_lem
-  never_locked e f = starts_by c false false e f
+  unfolding starts_by
+  never_locked e f = starts_by_lem c false false e f
 
   pub by_last_snr : c.pll.ekf.is_locked ≡ false → c.ever_locked ≡ true → lt c.last_snr (of_bits binary32 0) ≡ starts c
-  unfolding starts_by_lem
-  by_last_snr e f = starts_by c false true e f
+  unfolding starts_by
+  by_last_snr e f = starts_by_lem c false true e f
 
 -- ---- at which frequency
 

@@ -2,7 +2,7 @@
 -- same value; it is linear in its coefficients; it is at most its norm.
 use mathlib.Core.Path.{◌≡◌, refl, sym, ap, ◌∙◌, subst}
 use mathlib.Core.List.{List, [], ◌∷◌}
-use Prim.Native.Nat.{ℕ, zero, suc, ◌+◌, ◌-◌, ◌*◌, ◌^◌, ◌≤◌}
+use Prim.Native.Nat.{ℕ, zero, suc, ◌+◌, ◌*◌, ◌^◌, ◌≤◌}
 use native.Mathlib.Nat.{le_trans, le_of_eq, mul-le-mul_left, mul-le-mul_right, le_of_suc-le-suc, not-suc-le-zero, pow-succ', pow-zero, mul_assoc}
 use native.Mathlib.Omega.{arith}
 use lib.ListN.{length}

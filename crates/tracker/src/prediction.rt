@@ -30,7 +30,7 @@ pub fn process_noise(t: CarrierPllEkf, dt: f64) -> ProcessNoise
 }
 
 impl CarrierPllEkf {
-    // x becomes F·x, and P the mean of F.P.Fᵀ + Q and its transpose. The source sets the tracker's interval to dt, predicts and puts its own back; here dt
+    // x becomes F·x, and P the mean of F·P·Fᵀ + Q and its transpose. The source sets the tracker's interval to dt, predicts and puts its own back; here dt
     // is an argument.
     pub fn predict(self, p: [f64; 36], dt: f64) -> Tracked
         ensures { result ≡ predicted_over dt self p }

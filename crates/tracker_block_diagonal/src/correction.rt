@@ -67,7 +67,7 @@ fn joseph_left(h: Half, k: Gain) -> Half
     }
 }
 
-// T·(I − K·h)ᵀ + K.R.Kᵀ of the first half.
+// T·(I − K·h)ᵀ + K·R·Kᵀ of the first half.
 fn joseph_right(t: Half, k: Gain, noise: f64) -> Half
     ensures { result ≡ half_right t k noise }
 {

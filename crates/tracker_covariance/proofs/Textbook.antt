@@ -17,7 +17,7 @@ use Rattle.tracker_covariance.specs.Code.Entries.{sum_at, joseph_left_at}
 use Rattle.tracker_covariance.proofs.Entries.{matrix_at}
 use Rattle.tracker_covariance.proofs.Transition.{dot_agrees}
 
--- (F·P·Fᵀ)(r,c) is the sum over k of (F-as-P)(r,k) · F(c,k), and (F-as-P)(r,k) the sum over j of F(r,j) · P(j,k)
+-- (F·P·Fᵀ)(r,c) is the sum over k of (F·P)(r,k) · F(c,k), and (F·P)(r,k) the sum over j of F(r,j) · P(j,k)
 pub step_at_lem : (dt : Float) (p : List Float) (r c : ℕ) → r < 6 → c < 6 → at (by_ft dt (by_f dt p)) r c ≡ dot (row dt c) (λ k. dot (row dt r) (λ j. at p j k))
 step_at_lem dt p r c hr hc =
     matrix_at _ r c hr hc ∙ dot_agrees dt c (λ k. at (by_f dt p) r k) (λ k. dot (row dt r) (λ j. at p j k)) hc (λ k hk. matrix_at _ r k hr hk)

@@ -1,4 +1,4 @@
--- (F·(F-as-P)ᵀ)ᵀ is F·P·Fᵀ, operation by operation; and what the loop over rows stores.
+-- (F·(F·P)ᵀ)ᵀ is F·P·Fᵀ, operation by operation; and what the loop over rows stores.
 use Prim.Native.Nat.{ℕ, zero, suc, ◌+◌, ◌*◌, ◌<◌}
 use mathlib.Core.Path.{◌≡◌, sym, ap, ◌∙◌}
 use mathlib.Core.List.{List}
@@ -33,7 +33,7 @@ twice dt p =
     matrix_at _ c r hc hr
     ∙ dot_agrees dt c (λ k. at (transposed (by_f dt p)) k r) (λ k. at (by_f dt p) r k) hc (λ k hk. matrix_at _ k r hk hr))
 
--- the entries of (F-as-P)ᵀ
+-- the entries of (F·P)ᵀ
 abbrev pub step_at : Float → List Float → ℕ → ℕ → Float
 step_at dt p r c = at (by_f dt p) c r
 

@@ -42,10 +42,10 @@ dot (t ∷ ts) v = sum_from (product t v) ts v
 unfoldable pub predicted_state : Float → List Float → List Float
 predicted_state dt x = vector (λ r. dot (row dt r) (el x))
 
--- F-as-P
+-- F·P
 abbrev pub by_f : Float → List Float → List Float
 by_f dt p = matrix (λ r c. dot (row dt r) (λ k. at p k c))
 
--- P-as-Fᵀ
+-- P·Fᵀ
 abbrev pub by_ft : Float → List Float → List Float
 by_ft dt p = matrix (λ r c. dot (row dt c) (λ k. at p r k))

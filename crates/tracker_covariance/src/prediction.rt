@@ -47,7 +47,7 @@ fn noise_matrix(n: ProcessNoise) -> [f64; 36]
     q
 }
 
-// (F.P)ᵀ: row r is F times column r of P. Done twice, it is F.P.Fᵀ.
+// (F·P)ᵀ: row r is F times column r of P. Done twice, it is F·P·Fᵀ.
 fn transition_transposed(p: [f64; 36], dt: f64) -> [f64; 36]
     ensures { result ≡ transposed (by_f dt p) }
 {

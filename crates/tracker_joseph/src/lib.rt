@@ -25,7 +25,7 @@ fn left_of_first(p: [f64; 36], k: [f64; 6]) -> [f64; 36]
     out
 }
 
-// T·(I − K·h)ᵀ + K.R.Kᵀ.
+// T·(I − K·h)ᵀ + K·R·Kᵀ.
 fn right_of_first(t: [f64; 36], k: [f64; 6], noise: f64) -> [f64; 36]
     ensures { result ≡ joseph_right t 0 k noise }
 {
@@ -60,7 +60,7 @@ fn left_of_second(p: [f64; 36], k: [f64; 6]) -> [f64; 36]
     out
 }
 
-// T·(I − K·h)ᵀ + K.R.Kᵀ.
+// T·(I − K·h)ᵀ + K·R·Kᵀ.
 fn right_of_second(t: [f64; 36], k: [f64; 6], noise: f64) -> [f64; 36]
     ensures { result ≡ joseph_right t 3 k noise }
 {

@@ -1,6 +1,6 @@
 -- A tracker over the samples of a block reads only the live part of its window: with other contents elsewhere it leaves the same tracker, and the
 -- same live part again. Assumes nothing.
-use mathlib.Core.Path.{refl, ap}
+use mathlib.Core.Path.{refl}
 use mathlib.Core.Bool.{Bool, true, false, cond}
 use mathlib.Core.List.{List}
 use lib.Ieee.{Float}

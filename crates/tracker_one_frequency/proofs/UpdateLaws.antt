@@ -12,7 +12,7 @@ use Rattle.tracker_power_ratio.specs.PowerRatio.{ratio}
 use Rattle.tracker.specs.declared.state.CarrierPllEkf.{CarrierPllEkf}
 use Rattle.tracker.specs.declared.correction.Corrected.{Corrected}
 use Rattle.tracker.specs.declared.correction.Correction.TheVariants.{Kept}
-use Rattle.tracker.specs.State.{with_state, with_envelope, with_power}
+use Rattle.tracker.specs.State.{with_state, with_envelope}
 use Rattle.tracker.specs.Correction.{prior_of, any_nan, wrapped_phase, limited, windowed, band_corrected, gained}
 use Rattle.tracker.specs.Lock.{settled}
 use Rattle.tracker.specs.Update.{tracked, updated}

@@ -1,6 +1,5 @@
 -- `cell` meets its contract.
 use mathlib.Core.Path.{refl}
-use borrow.Author.Rules.{rules}
 use Rattle.elementary_cells.specs.Cells.{cell}
 use Rattle.elementary_cells.proofs.cell.Goals as goal
 

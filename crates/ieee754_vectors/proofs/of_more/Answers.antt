@@ -2,7 +2,6 @@
 use mathlib.Core.Path.{◌≡◌, refl, sym, ap, ◌∙◌}
 use Prim.Native.Nat.{ℕ}
 use borrow.Author.Tests.{ne_eqb}
-use borrow.Author.Rules.{rules}
 use lib.Ieee.{binary32, binary64, to_bits}
 use Rattle.ieee754.specs.Conversion.{convert}
 use Rattle.ieee754.specs.Order.{maximum, clamped}

@@ -1,18 +1,16 @@
 -- `survey::survey` meets its contract: at each turn a mark, or a pair that is left and passes its test, is what the whole list has. Assumes nothing.
 use mathlib.Core.Path.{◌≡◌, refl, sym, ap, ◌∙◌}
-use mathlib.Core.Bool.{Bool, true, false, ◌||◌}
-use mathlib.Core.List.{List, [], ◌∷◌}
-use Prim.Native.Nat.{ℕ, ◌+◌, ◌-◌, ◌≤◌, ◌<◌}
+use mathlib.Core.Bool.{Bool}
+use mathlib.Core.List.{List}
+use Prim.Native.Nat.{◌+◌, ◌≤◌, ◌<◌}
 use native.Mathlib.Omega.{arith}
-use borrow.Author.Rules.{rules}
-use lib.ListN.{length, get_or, drop}
+use lib.ListN.{length}
 use lib.Ieee.{Float, nan}
 use Rattle.sequences.specs.Pairs.{pairs}
 use Rattle.sequences.specs.Folds.{some}
 use Rattle.sequences.proofs.PairLaws.{pairs_next, pairs_none, some_pairs_next, some_pairs_end}
 use Rattle.survey.specs.Survey.{not_aNumber, clipped, signal, survey_of}
 use Rattle.survey.specs.Code.Flag.{flag_of}
-use Rattle.survey.proofs.survey.Invariants.{Left}
 use Rattle.survey.proofs.survey.Goals as goal
 
 some_pair : (xs : List Float) → 2 ≤ length xs → flag_of (some not_aNumber (pairs xs)) (some clipped (pairs xs)) (some signal (pairs xs)) ≡ survey_of (pairs xs)

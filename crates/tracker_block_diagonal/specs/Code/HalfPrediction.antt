@@ -1,11 +1,11 @@
--- Prediction of one half (the scope, module 3): F·P·Fᵀ + Q on a channel's phase, frequency and chirp, F-as-P first, and then the mean of it and its
+-- Prediction of one half (the scope, module 3): F·P·Fᵀ + Q on a channel's phase, frequency and chirp, F·P first, and then the mean of it and its
 -- transpose. Definitions only.
 use Rattle.std.specs.Prelude.{Float}
 use Rattle.ieee754.specs.Binary64.{plus, times, zero, half}
 use Rattle.tracker_covariance.specs.declared.prediction.ProcessNoise.{ProcessNoise}
 use Rattle.tracker_block_diagonal.specs.declared.half.Half.{Half}
 
--- F-as-P
+-- F·P
 abbrev pub moved_rows : Float → Half → Half
 moved_rows dt h =
     let dt2 = times (times half dt) dt in
@@ -21,7 +21,7 @@ moved_rows dt h =
       cc = h.cc;
     }
 
--- P-as-Fᵀ
+-- P·Fᵀ
 abbrev pub moved_columns : Float → Half → Half
 moved_columns dt h =
     let dt2 = times (times half dt) dt in

@@ -1,4 +1,4 @@
--- `predict` is the mean of F·P·Fᵀ + Q and its transpose: (F·(F-as-P)ᵀ)ᵀ is F·P·Fᵀ.
+-- `predict` is the mean of F·P·Fᵀ + Q and its transpose: (F·(F·P)ᵀ)ᵀ is F·P·Fᵀ.
 use mathlib.Core.Path.{ap, ◌∙◌}
 use mathlib.Core.List.{List}
 use lib.Ieee.{Float}

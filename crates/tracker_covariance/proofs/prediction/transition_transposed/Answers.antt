@@ -1,4 +1,4 @@
--- `transition_transposed` is (F-as-P)ᵀ. The loop's invariant: the rows above r are stored.
+-- `transition_transposed` is (F·P)ᵀ. The loop's invariant: the rows above r are stored.
 use mathlib.Core.Path.{refl}
 use native.Mathlib.Omega.{arith}
 use borrow.Author.Rules.{rules}

@@ -1,4 +1,4 @@
--- `transition_transposed` is (F-as-P)ᵀ. The loop's invariant: the rows above r are stored.
+-- `transition_transposed` is (F·P)ᵀ. The loop's invariant: the rows above r are stored.
 use Prim.Native.Nat.{◌≤◌, ◌+◌, ◌-◌, ◌*◌}
 use Rattle.tracker_covariance.proofs.Filling.{Rows}
 use Rattle.tracker_covariance.proofs.Transition.{step_at}

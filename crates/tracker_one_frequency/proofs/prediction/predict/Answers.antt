@@ -1,7 +1,6 @@
 -- `predict`, from what the prediction of the states and of the halves ensure.
 use mathlib.Core.Path.{◌≡◌, ap, sym, subst, ◌∙◌}
 use lib.Ieee.{Float}
-use borrow.Author.Rules.{rules}
 use Rattle.tracker_covariance.specs.declared.prediction.ProcessNoise.{ProcessNoise}
 use Rattle.tracker_covariance.specs.Prediction.{predicted}
 use Rattle.tracker.specs.State.{with_state}

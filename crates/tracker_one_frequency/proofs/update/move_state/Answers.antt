@@ -1,8 +1,7 @@
 -- `move_state`, from what the two steps ensure.
 use mathlib.Core.Path.{ap, ◌∙◌}
 use mathlib.Core.List.{List}
-use lib.Ieee.{Float, of_bits}
-use borrow.Author.Rules.{rules}
+use lib.Ieee.{Float}
 use Rattle.tracker.specs.Correction.{wrapped_phase}
 use Rattle.tracker_one_frequency.proofs.update.move_state.Goals as goal
 

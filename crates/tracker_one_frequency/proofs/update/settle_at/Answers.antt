@@ -1,6 +1,5 @@
 -- `settle_at`, from what its steps ensure.
 use mathlib.Core.Path.{◌∙◌}
-use borrow.Author.Rules.{rules}
 use Rattle.tracker.specs.State.{with_state}
 use Rattle.tracker.specs.Lock.{settled}
 use Rattle.tracker_one_frequency.proofs.update.settle_at.Goals as goal

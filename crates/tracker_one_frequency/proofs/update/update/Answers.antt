@@ -1,6 +1,5 @@
 -- `update`, made and not made.
 use mathlib.Core.Path.{ap, sym}
-use borrow.Author.Rules.{rules}
 use Rattle.tracker_measurement.specs.declared.measure.Prior.{Prior}
 use Rattle.tracker_block_diagonal.specs.Code.Joined.{joined, gains}
 use Rattle.tracker_covariance.specs.Correction.{takes_gain}
