@@ -9,7 +9,8 @@ mod words;
 ghost use Rattle.std.specs.Prelude.{◌≡◌};
 ghost use Rattle.channel_cases.specs.Code.Groups.{one_more, with_case};
 
-use libc::STDOUT_FILENO;
+// The descriptor of standard output.
+const STDOUT: i32 = 1;
 
 // A group so far: whether a title started it, its cases, and those that hold.
 #[derive(Clone, Copy)]
@@ -30,19 +31,19 @@ fn say_group(g: Group) {
         return;
     }
     if g.good == g.all {
-        io::write_all(STDOUT_FILENO, b": ");
+        io::write_all(STDOUT, b": ");
     } else {
-        io::write_all(STDOUT_FILENO, b"\n");
+        io::write_all(STDOUT, b"\n");
     }
-    io::print_decimal(STDOUT_FILENO, g.good);
-    io::write_all(STDOUT_FILENO, b" of ");
-    io::print_decimal(STDOUT_FILENO, g.all);
-    io::write_all(STDOUT_FILENO, b"\n");
+    io::print_decimal(STDOUT, g.good);
+    io::write_all(STDOUT, b" of ");
+    io::print_decimal(STDOUT, g.all);
+    io::write_all(STDOUT, b"\n");
 }
 
 fn say_differs(case: &[u8]) {
-    io::write_all(STDOUT_FILENO, b"\ndiffers: ");
-    io::write_all(STDOUT_FILENO, case);
+    io::write_all(STDOUT, b"\ndiffers: ");
+    io::write_all(STDOUT, case);
 }
 
 fn judge(case: &[u8], g: Group) -> Group
@@ -73,7 +74,7 @@ fn take(text: &[u8], g: Group) -> Group {
         b'-' => g,
         b'#' => {
             say_group(g);
-            io::write_all(STDOUT_FILENO, text);
+            io::write_all(STDOUT, text);
             Group {
                 titled: true,
                 good: 0,

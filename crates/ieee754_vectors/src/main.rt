@@ -6,7 +6,9 @@ ghost use Rattle.std.specs.Prelude.{◌≡◌};
 ghost use Rattle.ieee754_vectors.specs.Code.Lines.{single, of_one, of_more, line_agrees};
 
 use ieee754::pattern::{f32_from_bits, f32_to_bits, f64_from_bits, f64_to_bits};
-use libc::STDOUT_FILENO;
+
+// The descriptor of standard output.
+const STDOUT: i32 = 1;
 
 // An f32 stands in the lower half.
 fn f32_at(b: u64) -> f32
@@ -65,13 +67,13 @@ fn main() {
             break;
         }
         if !agrees(&line) {
-            io::write_all(STDOUT_FILENO, &line);
+            io::write_all(STDOUT, &line);
             differ += 1;
         }
         n += 1;
     }
-    io::print_decimal(STDOUT_FILENO, n);
-    io::write_all(STDOUT_FILENO, b" vectors, ");
-    io::print_decimal(STDOUT_FILENO, differ);
-    io::write_all(STDOUT_FILENO, b" differ\n");
+    io::print_decimal(STDOUT, n);
+    io::write_all(STDOUT, b" vectors, ");
+    io::print_decimal(STDOUT, differ);
+    io::write_all(STDOUT, b" differ\n");
 }
