@@ -1,0 +1,15 @@
+-- `pump`: every turn leaves the stream standing, and the count of turns goes down.
+use Prim.Native.Nat.{◌+◌, ◌*◌, ◌≤◌}
+use Rattle.pass_transfer.specs.Code.Standing.{onward, Stands, Sizes}
+use Rattle.pass_listing.proofs.pump.Given as goal
+
+abbrev pub invariant-loop-turns : goal.invariant-loop-turns
+invariant-loop-turns g l = record {
+  stands : Stands l.s (onward l.pass l.windows) l.buf l.out;
+  sizes : Sizes l.buf l.out;
+  read : l.s.read + 262144 * l.turns ≤ 0x8000_0000_0000_0000;
+  written : l.s.written + 262144 * l.turns ≤ 0x8000_0000_0000_0000;
+}
+
+abbrev pub decreases-loop-turns : goal.decreases-loop-turns
+decreases-loop-turns g l = l.turns
