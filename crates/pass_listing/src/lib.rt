@@ -2,9 +2,9 @@
 // list is written, and more of the text is read.
 #![tactic(auto)]
 
-ghost use Rattle.std.specs.Prelude.{◌≡◌};
-ghost use Rattle.pass_transfer.specs.Account.{Accounted, Completed};
-ghost use Rattle.pass_transfer.specs.Code.Standing.{onward, Sizes, Countable, Counted, Placed, Stands};
+ghost use Rattle.std.specs.Prelude.{◌≡◌, List, ℕ, Option};
+ghost use Rattle.pass_transfer.specs.Account.{Accounted, Carried, Completed};
+ghost use Rattle.pass_transfer.specs.Code.Standing.{onward, Sizes, Countable, Counted, Placed, Stands, Moves};
 ghost use Rattle.pass_turn.specs.Code.Turning.{zeros};
 
 use pass_setup::pass::Pass;
@@ -37,6 +37,8 @@ fn go_on<R: Read, W: Write, S: Clock + Eprint>(
 ) -> Went
     requires { Placed s buf.old out.old × Sizes buf.old out.old × Countable s }
     ensures stands { Stands s (onward p windows.old) buf.old out.old → Stands result.state (onward result.pass windows.new) buf.new out.new }
+    ensures moves { (had held : Option (List ℕ)) → Moves s (onward p windows.old) buf.old out.old had (R.remaining input.old) held (W.contents output.old)
+        → Moves result.state (onward result.pass windows.new) buf.new out.new had (R.remaining input.new) held (W.contents output.new) }
     ensures counted { Counted s result.state }
 {
     if !pass_transfer::is_due(s) {
@@ -80,6 +82,8 @@ fn pump<R: Read, W: Write, S: Clock + Eprint>(
 ) -> Account
     requires { Stands first (onward p windows.old) buf.old out.old × Sizes buf.old out.old × (first.read ≡ 0) × (first.written ≡ 0) }
     ensures accounted { Accounted result }
+    ensures carried { (had held : Option (List ℕ)) → Moves first (onward p windows.old) buf.old out.old had (R.remaining input.old) held (W.contents output.old)
+        → Carried result had (R.remaining input.new) held (W.contents output.new) }
     ensures completed { Completed result }
 {
     let mut pass = p;
@@ -108,6 +112,7 @@ fn start<R: Read, W: Write, S: Clock + Eprint>(
 ) -> Account
     requires { Sizes buf.old out.old × (windows.old ≡ zeros) }
     ensures accounted { Accounted result }
+    ensures carried { Carried result (R.remaining input.old) (R.remaining input.new) (W.contents output.old) (W.contents output.new) }
     ensures completed { Completed result }
 {
     let f = pass_turn::begin(out);
@@ -129,6 +134,7 @@ fn start<R: Read, W: Write, S: Clock + Eprint>(
 // Reads a pass text to its end, and writes its list. The runtime is asked for the pauses, and for a line on standard error where a read or a write fails.
 pub fn list<R: Read, W: Write, S: Clock + Eprint>(rt: &S, input: &mut R, output: &mut W) -> Account
     ensures accounted { Accounted result }
+    ensures carried { Carried result (R.remaining input.old) (R.remaining input.new) (W.contents output.old) (W.contents output.new) }
     ensures completed { Completed result }
 {
     let mut buf = [0u8; 262144];

@@ -1,19 +1,14 @@
 -- What the answer of a read means.
-use mathlib.Core.Path.{◌≡◌, refl, ap, sym, subst, ◌∙◌}
+use mathlib.Core.Path.{◌≡◌, refl, sym, subst, ◌∙◌}
 use mathlib.Core.Bool.{Bool, true, false, cond}
-use Prim.Native.Nat.{ℕ, suc, ◌-◌, ◌^◌, ◌≤◌, ◌<◌, min}
-use native.Mathlib.Nat.{le_of_lt}
+use Prim.Native.Nat.{ℕ, ◌-◌, ◌≤◌, ◌<◌, min}
 use native.Mathlib.Omega.{arith}
 use mathlib.Core.List.{List, ◌++◌}
-use lib.Dec.{T, eqb, ltb}
+use lib.Dec.{eqb}
 use lib.ListN.{length, take, drop, length-drop}
 use lib.Seq.{take_at, length-take-le}
-use lib.IntN.{ℤ, pos, negsuc, nat_abs}
-use mir.Syntax.{w32, w64}
-use mir.Val.{bits, hbits, sel, to_z, Fits}
-use mir.Facts.{Fits-below}
-use lib.Signed.{lt_z, non_neg}
-use borrow.Author.Tests.{ltb-true, eq-eqb, ne_eqb, eqb-false}
+use lib.IntN.{ℤ}
+use borrow.Author.Tests.{eq-eqb, ne_eqb, eqb-false}
 use Rattle.std.specs.Prelude.{Result, Ok, Err, Some, None}
 use Rattle.std.specs.IoError.{error_kind, raw_os_error}
 use Rattle.std.specs.declared.io.ErrorKind.{ErrorKind}

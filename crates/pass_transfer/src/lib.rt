@@ -1,13 +1,14 @@
 // One write or one read at a time, and where the stream of a pass text stands between them (the scope, "The pass text and its list"): what is made of the list is
-// written, and more of the text is read. That a read of the system brings and a write of the system takes these very bytes no contract can say; it is seen in
-// `read_once`, `write_once` and `write_waiting`, three lines each.
+// written, and more of the text is read. Where it is known which bytes a reader has left and a writer holds, these very bytes are read and written. Of the system's
+// files that is not known, and no contract can say it; it is seen in `read_once`, `write_once` and `write_waiting`, two lines each.
 #![tactic(auto)]
 
-ghost use Rattle.std.specs.Prelude.{cond, List, ◌≡◌, ℕ, ◌+◌, ◌-◌, ◌≤◌, ◌<◌, length, take, IfOk};
+ghost use Rattle.std.specs.Prelude.{cond, List, ◌≡◌, ℕ, ◌+◌, ◌-◌, ◌≤◌, ◌<◌, length, take, drop, IfOk, Option};
+ghost use Rattle.std.specs.Io.KnownBytes.{WriteAppends};
 ghost use Rattle.pass_writer.specs.Code.Buffers.{longest};
 ghost use Rattle.pass_setup.specs.Listing.{Run};
 ghost use Rattle.pass_transfer.specs.Account.{is_last};
-ghost use Rattle.pass_transfer.specs.Code.Standing.{got_of, Brought, error_of, failure_of, is_passing, is_over, is_held, is_due, Sizes, Countable, Counted, Placed, Stands, Asking, with_written, given_up, with_more, with_end, with_last, account_of};
+ghost use Rattle.pass_transfer.specs.Code.Standing.{got_of, Brought, Took, error_of, failure_of, is_passing, is_over, is_held, is_due, Sizes, Countable, Counted, waits, Placed, Stands, Moves, Asking, with_written, given_up, with_more, with_end, with_last, account_of};
 
 use std::io;
 use std::io::{ErrorKind, Read, Write};
@@ -77,7 +78,8 @@ fn got_of(got: io::Result<usize>, part: &[u8]) -> Got
 }
 
 fn read_once<R: Read>(part: &mut [u8], input: &mut R) -> Got
-    ensures { Brought result (length part.old) }
+    ensures brought { Brought result (length part.old) }
+    ensures took { Took result (R.remaining input.old) (R.remaining input.new) part.new }
 {
     let got = input.read(part);
     got_of(got, part)
@@ -88,13 +90,15 @@ fn read_behind<R: Read>(buf: &mut [u8], left: usize, input: &mut R) -> Got
     requires { left ≤ length buf.old }
     ensures brought { Brought result (length buf.old - left) }
     ensures buf_unchanged { take left buf.new ≡ take left buf.old }
+    ensures took { Took result (R.remaining input.old) (R.remaining input.new) (drop left buf.new) }
 {
     read_once(&mut buf[left..], input)
 }
 
 // Writes once, and answers how many bytes were taken.
 fn write_once<W: Write>(part: &[u8], output: &mut W) -> io::Result<usize>
-    ensures { IfOk result (λ n. n ≤ length part.now) }
+    ensures upper_bound { IfOk result (λ n. n ≤ length part.now) }
+    ensures gave { WriteAppends (W.contents output.old) (W.contents output.new) result part.now }
 {
     output.write(part)
 }
@@ -102,7 +106,8 @@ fn write_once<W: Write>(part: &[u8], output: &mut W) -> io::Result<usize>
 // Writes some of what waits.
 fn write_waiting<W: Write>(s: State, out: &[u8], output: &mut W) -> io::Result<usize>
     requires { (s.from ≤ s.at) × (s.at ≤ length out.now) }
-    ensures { IfOk result (λ n. s.from + n ≤ s.at) }
+    ensures upper_bound { IfOk result (λ n. s.from + n ≤ s.at) }
+    ensures gave { WriteAppends (W.contents output.old) (W.contents output.new) result (waits s out.now) }
 {
     let from = s.from;
     let at = s.at;
@@ -171,6 +176,8 @@ fn sent(s: State, n: usize) -> State
 fn send<W: Write, S: Clock + Eprint>(rt: &S, s: State, out: &[u8], output: &mut W) -> State
     requires { (s.from < s.at) × (s.at ≤ length out.now) × (length out.now ≡ 65536) × Countable s }
     ensures stands { (g : Run) (b : List ℕ) → Stands s g b out.now → Stands result g b out.now }
+    ensures moves { (g : Run) (b : List ℕ) (had left held : Option (List ℕ)) → Moves s g b out.now had left held (W.contents output.old)
+        → Moves result g b out.now had left held (W.contents output.new) }
     ensures counted { Counted s result }
 {
     match write_waiting(s, out, output) {
@@ -244,6 +251,7 @@ pub fn closing(s: State, at: usize, next: Next, error: u64) -> State
 fn at_failure<S: Clock + Eprint>(rt: &S, s: State, out: &mut [u8], failure: io::Error) -> State
     requires { (s.next ≡ Next.Read) × (s.from ≡ s.at) × (longest ≤ length out.old) }
     ensures stands { (g : Run) (b : List ℕ) → Stands s g b out.old → Stands result g b out.new }
+    ensures moves { (g : Run) (b : List ℕ) (had left held holds : Option (List ℕ)) → Moves s g b out.old had left held holds → Moves result g b out.new had left held holds }
     ensures counted { Counted s result }
     ensures next_value { result.next ≡ cond (is_passing (failure_of failure)) Next.Read Next.Failed }
     ensures error_value { result.error ≡ cond (is_passing (failure_of failure)) s.error (failure_of failure) }
@@ -268,6 +276,8 @@ fn fetch<R: Read, S: Clock + Eprint>(
 ) -> State
     requires { Asking s buf.old out.old × Sizes buf.old out.old × Countable s }
     ensures stands { (g : Run) → Stands s g buf.old out.old → Stands result g buf.new out.new }
+    ensures moves { (g : Run) (had held holds : Option (List ℕ)) → Moves s g buf.old out.old had (R.remaining input.old) held holds
+        → Moves result g buf.new out.new had (R.remaining input.new) held holds }
     ensures counted { Counted s result }
 {
     let left = s.left;
@@ -290,6 +300,8 @@ pub fn step<R: Read, W: Write, S: Clock + Eprint>(
 ) -> State
     requires { Placed s buf.old out.old × Sizes buf.old out.old × Countable s }
     ensures stands { (g : Run) → Stands s g buf.old out.old → Stands result g buf.new out.new }
+    ensures moves { (g : Run) (had held : Option (List ℕ)) → Moves s g buf.old out.old had (R.remaining input.old) held (W.contents output.old)
+        → Moves result g buf.new out.new had (R.remaining input.new) held (W.contents output.new) }
     ensures counted { Counted s result }
 {
     let from = s.from;

@@ -1,8 +1,6 @@
 -- `error_number`: the system's number, or that of the kind.
-use mathlib.Core.Path.{◌≡◌, ap, sym, ◌∙◌}
-use native.Mathlib.Omega.{arith}
+use mathlib.Core.Path.{◌≡◌, ap, ◌∙◌}
 use Rattle.std.proofs.Common.{to_z, of_z, w32, rules}
-use Rattle.std.proofs.lemmas.Int.{ints}
 use Rattle.pass_transfer.specs.Code.Standing.{error_of}
 use Rattle.pass_transfer.proofs.ReadLaws.{numbered, waiting, interrupted, other_kind}
 use Rattle.pass_transfer.proofs.error_number.Goals as goal

@@ -1,7 +1,4 @@
 -- `got_of`: by whether the read failed, and by whether anything came.
-use mathlib.Core.Path.{sym, ap, ◌∙◌}
-use lib.ListN.{length}
-use Rattle.pass_transfer.specs.Code.Standing.{got_of}
 use Rattle.pass_transfer.proofs.ReadLaws.{failure_is, end_is, bytes_is}
 use Rattle.pass_transfer.proofs.got_of.Goals as goal
 

@@ -11,3 +11,9 @@ fetch-requires g c =
     let b = c.if-from-at.false in
     let z = c.requires.1.list in
     (record { next_is = c.in-Read.is; sent = omega arith; held = q.1; plain = q.0; list = omega arith }, c.requires.1, c.requires.2)
+
+pub returns-then-from-at-clause-moves : goal.returns-then-from-at-clause-moves
+returns-then-from-at-clause-moves g c = λ r had held h. c.send.ensures.moves r _ _ _ _ h
+
+pub returns-in-Read-clause-moves : goal.returns-in-Read-clause-moves
+returns-in-Read-clause-moves g c = λ r had held h. c.fetch.ensures.moves r _ _ _ h
