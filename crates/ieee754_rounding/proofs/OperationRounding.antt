@@ -1,5 +1,5 @@
 -- Each operation on finite values is one `round` of the exact result. For any format. Assumes nothing.
-use mathlib.Core.Path.{◌≡◌, refl, sym, ap, ◌∙◌, subst}
+use mathlib.Core.Path.{◌≡◌, refl, sym, ap, ◌∙◌}
 use mathlib.Core.Bool.{Bool, true, false, not, ◌&&◌, cond, true≢false}
 use Prim.Native.Nat.{ℕ, zero, suc, ◌+◌, ◌-◌, ◌*◌, ◌^◌, ◌≤◌, ◌<◌}
 use native.Mathlib.Nat.{le_of_eq, lt_of_le_of_lt, lt_of_lt_of_le, one-mul, mul_assoc, mul_comm, mul_right_comm, mul-pos, add-mul, mul-lt-mul_of_pos_right, lt_of_mul-lt-mul_right, zero-lt-suc, mul-mul-mul_comm}
@@ -12,7 +12,7 @@ use lib.Ieee.Fits.{down_pos}
 use lib.Ieee.Exact.{HasValue}
 use lib.Ieee.Scale.{round_same}
 use Rattle.ieee754_rounding.specs.Code.Errors.{Val}
-use Rattle.ieee754_rounding.proofs.Values.{Sized, sized, neg_val}
+use Rattle.ieee754_rounding.proofs.Values.{sized, neg_val}
 
 -- z is p - q over c, rounded once: `round` of the size, with the sign
 pub record Rounds (f : Format) (z : Float) (c p q : ℕ) : Type 0 where

@@ -1,18 +1,18 @@
 -- How far `round` can be from what it rounds: half of the last digit that it keeps. Over whole numbers, in either format. Assumes nothing.
 use mathlib.Core.Path.{◌≡◌, refl, sym, ap, ◌∙◌, subst}
 use mathlib.Core.Logic.{inl, inr}
-use mathlib.Core.Bool.{Bool, true, false}
-use Prim.Native.Nat.{ℕ, zero, suc, ◌+◌, ◌-◌, ◌*◌, ◌/◌, ◌%◌, ◌^◌, ◌≤◌, ◌<◌, zero-le, suc-le-suc, compare, Ordering}
-use native.Mathlib.Nat.{div-lt_iff_lt-mul, sub-le, one-mul, pow-succ', lt_of_le_of_lt, le_of_mul-le-mul_right, le_of_mul-le-mul_left, le_trans, le_of_eq, le_of_lt, eq-zero-or-pos, mod-lt, mul_comm, mul_assoc, mul_left_comm, mul_right_comm, add-mul, mul-add, mul-one, mul-le-mul_right, mul-le-mul_left, mul-pos, div-add-mod', div-mul-le_self, mul-suc, suc-mul}
+use mathlib.Core.Bool.{Bool}
+use Prim.Native.Nat.{ℕ, suc, ◌+◌, ◌-◌, ◌*◌, ◌/◌, ◌%◌, ◌^◌, ◌≤◌, ◌<◌, zero-le, suc-le-suc, compare, Ordering}
+use native.Mathlib.Nat.{div-lt_iff_lt-mul, sub-le, one-mul, pow-succ', lt_of_le_of_lt, le_of_mul-le-mul_right, le_of_mul-le-mul_left, le_trans, le_of_eq, eq-zero-or-pos, mod-lt, mul_comm, mul_assoc, mul_left_comm, mul_right_comm, add-mul, mul-add, mul-one, mul-le-mul_right, mul-le-mul_left, mul-pos, div-add-mod', div-mul-le_self, suc-mul}
 use native.Mathlib.Omega.{arith}
 use lib.Pow.{pow-add, pow_pos, pow_mono}
-use lib.Ieee.{Float, nan, inf, fin, Format, prec, emax, low, up, down, size, nearest, round}
+use lib.Ieee.{Float, Format, prec, emax, low, size, nearest, round}
 use lib.Ieee.Digits.{size_reaches, size-le}
-use lib.Ieee.Fits.{two, two-le_pos, down_pos, round_is}
+use lib.Ieee.Fits.{two, two-le_pos, round_is}
 use lib.Ieee.Exact.{HasValue, units_val}
 use lib.Ieee.Nearest.{closest}
 use lib.Ieee.Order.{drop, kept}
-use lib.Ieee.Scale.{grid, overflow, round_val}
+use lib.Ieee.Scale.{grid, overflow}
 use Rattle.ieee754_rounding.specs.Code.Errors.{Within}
 use Rattle.ieee754_rounding.proofs.Comparison.{Cmp, cmp}
 

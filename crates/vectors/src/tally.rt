@@ -2,7 +2,8 @@
 ghost use Rattle.std.specs.Prelude.{◌≡◌};
 ghost use Rattle.vectors.specs.Code.Counts.{one_more, with_line};
 
-use libc::STDOUT_FILENO;
+// The descriptor of standard output.
+const STDOUT: i32 = 1;
 
 #[derive(Clone, Copy)]
 pub struct Tally {
@@ -19,8 +20,8 @@ fn one_more(n: u64) -> u64
 
 // A line that differs is told by its number.
 fn say_differs(n: u64) {
-    io::print_decimal(STDOUT_FILENO, n);
-    io::write_all(STDOUT_FILENO, b" differs\n");
+    io::print_decimal(STDOUT, n);
+    io::write_all(STDOUT, b" differs\n");
 }
 
 // One line more, which agrees or differs.
@@ -43,8 +44,8 @@ pub fn counted(t: Tally, agrees: bool) -> Tally
 
 // The result.
 pub fn say(t: Tally) {
-    io::print_decimal(STDOUT_FILENO, t.lines);
-    io::write_all(STDOUT_FILENO, b" vectors, ");
-    io::print_decimal(STDOUT_FILENO, t.differ);
-    io::write_all(STDOUT_FILENO, b" differ\n");
+    io::print_decimal(STDOUT, t.lines);
+    io::write_all(STDOUT, b" vectors, ");
+    io::print_decimal(STDOUT, t.differ);
+    io::write_all(STDOUT, b" differ\n");
 }

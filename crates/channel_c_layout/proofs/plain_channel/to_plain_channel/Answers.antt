@@ -1,0 +1,7 @@
+use borrow.Author.Rules.{rules}
+use Rattle.channel_c_layout.specs.Channels.{plain_channel}
+use Rattle.channel_c_layout.proofs.plain_channel.to_plain_channel.Goals as goal
+
+pub returns : goal.returns
+unfolding plain_channel
+returns c = cc

@@ -1,0 +1,18 @@
+-- `channel_samples::normalisation::normalise` meets its contract: at each turn what is done, and what is left normalised, is the whole list normalised. Assumes nothing.
+use mathlib.Core.Path.{◌≡◌, sym, ◌∙◌}
+use mathlib.Core.List.{◌++◌}
+use Prim.Native.Nat.{◌-◌, ◌≤◌}
+use native.Mathlib.Omega.{arith}
+use borrow.Author.Rules.{rules}
+use lib.ListN.{length, take, drop, length-set}
+use lib.Ieee.{nan}
+use Rattle.sequences.specs.Pairs.{map_pairs}
+use Rattle.sequences.proofs.PairLaws.{map_pairs_next, map_pairs_end}
+use Rattle.channel_samples.specs.Normalisation.{unit, normalised}
+use Rattle.channel_samples.proofs.normalisation.normalise.Given as goal
+
+abbrev pub invariant-loop-i : goal.invariant-loop-i
+invariant-loop-i l = (take l.i l.samples ++ map_pairs unit (drop l.i l.samples) ≡ map_pairs unit l.initial.samples) × (l.i ≤ length l.samples) × (length l.samples ≡ length l.initial.samples)
+
+abbrev pub decreases-loop-i : goal.decreases-loop-i
+decreases-loop-i l = length l.initial.samples - l.i

@@ -1,0 +1,24 @@
+-- `estimate_esprit::power_iteration::divided` meets its contract: before turn i the first i quotients stand in the table. Assumes nothing.
+use mathlib.Core.Path.{◌≡◌, refl}
+use Prim.Native.Nat.{◌*◌, ◌-◌, ◌≤◌}
+use native.Mathlib.Omega.{arith}
+use lib.ListN.{length, take, length-set}
+use lib.Ieee.{binary64}
+use Rattle.sums.specs.Complex.{div_c}
+use Rattle.sums.specs.Interleaved.{at, table}
+use Rattle.sums.proofs.Tables.{table_start, table_next, table_end}
+use Rattle.estimate_esprit.specs.Esprit.{divided_by}
+use borrow.Author.Rules.{rules}
+use Rattle.estimate_esprit.proofs.power_iteration.divided.Goals as goal
+
+pub loop-i-init : goal.loop-i-init
+loop-i-init c = (table_start _, search rules, search rules)
+
+pub loop-i-preserved : goal.loop-i-preserved
+loop-i-preserved c = (table_next _ _ _ (omega arith) c.loop-i.invariant.0 refl, omega arith, simp length-set (omega arith))
+
+pub returns : goal.returns
+unfolding divided_by
+returns c =
+    let l = c.loop-i in
+    table_end _ l.i 10 _ l.invariant.0 (omega arith) (omega arith) l.invariant.2

@@ -1,0 +1,16 @@
+-- `pass_reader::number::decimal` meets its contract. A field of another shape is no number; the rest is `digits`.
+use mathlib.Core.Path.{sym, ◌∙◌}
+use native.Mathlib.Omega.{arith}
+use borrow.Author.Tests.{not-true, not-false}
+use borrow.Author.Rules.{rules}
+use Rattle.pass_reader.proofs.NumberLaws.{shape_short, unshaped, shaped}
+use Rattle.pass_reader.proofs.number.decimal.Goals as goal
+
+pub returns-then-not-has_decimal_shape : goal.returns-then-not-has_decimal_shape
+returns-then-not-has_decimal_shape c = unshaped _ (sym c.has_decimal_shape.ensures ∙ c.if-not-has_decimal_shape.true)
+
+pub digits-requires : goal.digits-requires
+digits-requires c = (shape_short _ (sym c.has_decimal_shape.ensures ∙ c.if-not-has_decimal_shape.false), omega arith)
+
+pub returns : goal.returns
+returns c = c.digits.ensures ∙ shaped _ (sym c.has_decimal_shape.ensures ∙ c.if-not-has_decimal_shape.false)

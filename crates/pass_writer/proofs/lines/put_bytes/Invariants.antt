@@ -1,0 +1,15 @@
+-- `pass_writer::lines::put_bytes` meets its contract. Loop: the first i bytes are laid.
+use mathlib.Core.Path.{◌≡◌, refl, ◌∙◌, ap}
+use Prim.Native.Nat.{◌≤◌, ◌+◌, ◌-◌}
+use native.Mathlib.Omega.{arith}
+use native.Mathlib.Numerals.{add-one}
+use lib.ListN.{length, set, get_or, length-set}
+use lib.Seq.{paste, paste-zero, paste-suc}
+use Rattle.pass_writer.proofs.LaidLaws.{laid_paste}
+use Rattle.pass_writer.proofs.lines.put_bytes.Given as goal
+
+abbrev pub invariant-loop-i : goal.invariant-loop-i
+invariant-loop-i l = (l.i ≤ length l.s) × (l.at + length l.s ≤ length l.initial.out) × (length l.out ≡ length l.initial.out) × (l.out ≡ paste l.initial.out l.at l.s l.i)
+
+abbrev pub decreases-loop-i : goal.decreases-loop-i
+decreases-loop-i l = length l.s - l.i

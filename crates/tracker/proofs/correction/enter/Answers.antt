@@ -1,0 +1,13 @@
+-- `enter`, from what `push` ensures.
+use mathlib.Core.Path.{ap}
+use mathlib.Core.List.{List}
+use lib.Ieee.{Float}
+use borrow.Author.Rules.{rules}
+use Rattle.tracker_power_ratio.specs.declared.PowerSums.{PowerSums}
+use Rattle.tracker.specs.State.{with_power}
+use Rattle.tracker.proofs.correction.enter.Goals as goal
+
+pub returns : goal.returns
+returns c =
+    let a = c.args in
+    ap (λ (e : PowerSums × List Float). (with_power a.t e.0, e.1)) c.push-s.ensures

@@ -1,0 +1,16 @@
+-- `prior_of` reads the channel's phase, which is one of the six states.
+use mathlib.Core.Path.{ap}
+use native.Mathlib.Omega.{arith}
+use borrow.Author.Rules.{rules}
+use Rattle.tracker_covariance.proofs.Phases.{phase_small}
+use Rattle.tracker.specs.Correction.{prior_of}
+use Rattle.tracker.proofs.correction.prior_of.Goals as goal
+
+pub offset_bounds-x-i : goal.offset_bounds-x-i
+offset_bounds-x-i c = record { fits = omega (arith, phase_small c.args.band, c.phase_index-i.ensures) }
+
+pub bounds-x-i : goal.bounds-x-i
+bounds-x-i c = omega (arith, phase_small c.args.band, c.phase_index-i.ensures)
+
+pub returns : goal.returns
+returns c = ap (prior_of c.args.t) c.phase_index-i.ensures

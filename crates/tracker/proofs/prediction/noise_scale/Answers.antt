@@ -1,0 +1,12 @@
+-- `noise_scale`, adaptive or not.
+use borrow.Author.Rules.{rules}
+use Rattle.tracker.specs.Prediction.{noise_scale}
+use Rattle.tracker.proofs.prediction.noise_scale.Goals as goal
+
+pub returns-then-adaptive : goal.returns-then-adaptive
+unfolding noise_scale
+returns-then-adaptive c = rw (c.if-adaptive.true, c.clamp.ensures)
+
+pub returns : goal.returns
+unfolding noise_scale
+returns c = rw c.if-adaptive.false

@@ -1,0 +1,6 @@
+-- `widened` changes no value.
+use Rattle.std.proofs.Common.{rules}
+use Rattle.tracker_measurement.proofs.sample.widened.Goals as goal
+
+pub returns : goal.returns
+returns c = cc

@@ -1,0 +1,26 @@
+-- `update`, made and not made.
+use mathlib.Core.Path.{ap, sym}
+use borrow.Author.Rules.{rules}
+use Rattle.tracker_measurement.specs.declared.measure.Prior.{Prior}
+use Rattle.tracker_block_diagonal.specs.Code.Joined.{joined, gains}
+use Rattle.tracker_covariance.specs.Correction.{takes_gain}
+use Rattle.tracker_one_frequency.specs.Code.Parts.{together}
+use Rattle.tracker_one_frequency.proofs.MeasuredParts.{measured_by_parts}
+use Rattle.tracker_one_frequency.proofs.UpdateLaws.{made}
+use Rattle.tracker_one_frequency.proofs.update.update.Goals as goal
+
+pub returns-then-c : goal.returns-then-c
+unfolding takes_gain
+returns-then-c c =
+    let v = c.prior_of-prior in
+    let r = c.receive-a in
+    let k = c.correct-c in
+    let d = c.detect-d in
+    let n = c.in_phase-norm_re in
+    let a = c.args in
+    let h = k.ensures c.if-c.true in
+    let em = measured_by_parts v.result a.re a.im _ r.result d.result n.result (sym (ap (λ (q : Prior). q.modulation) v.ensures)) r.ensures d.ensures n.ensures in
+    made a.h.ekf (joined a.h.halves) a.w.now a.re a.im _ (together r.result d.result n.result) _ _ (gains k.result.k) _ (joined k.result.halves) _ _
+    v.ensures em
+    c.enter-u.ensures h.0 h.1 c.move_state-v.ensures c.has_nan.ensures c.if-has_nan.false h.2
+    c.settle_at-s.ensures

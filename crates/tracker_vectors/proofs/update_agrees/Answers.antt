@@ -1,0 +1,24 @@
+-- `tracker_vectors::update_agrees` meets its contract. Assumes nothing.
+use mathlib.Core.Path.{◌≡◌, ap, ◌∙◌}
+use mathlib.Core.Bool.{Bool, false, ◌&&◌}
+use mathlib.Core.List.{List, [], ◌∷◌}
+use Prim.Native.Nat.{ℕ}
+use borrow.Author.Rules.{rules}
+use lib.ListN.{drop}
+use Rattle.vectors.specs.Code.Lines.{number_at, mark_at, stands_at, ends_at}
+use Rattle.vectors.proofs.LineLaws.{stands_in_rest}
+use Rattle.tracker_vectors.specs.declared.after.After.{After}
+use Rattle.tracker_vectors.specs.Code.After.{guarded_words}
+use Rattle.tracker_vectors.specs.Code.Lines.{after_update, update_agrees}
+use Rattle.tracker_vectors.proofs.update_agrees.Goals as goal
+
+whole : (ws : List ℕ) {b left : List ℕ} {dual s t e : Bool} {guard : ℕ} → b ≡ drop 3 ws → dual ≡ mark_at 1 ws → guard ≡ number_at 2 ws → (r : After) → r ≡ after_update false dual guard b
+    → left ≡ drop 58 ws → s ≡ stands_at 0 (guarded_words r) left → t ≡ stands_at 55 (2 ∷ []) ws → e ≡ ends_at 109 ws → (t && (s && e)) ≡ update_agrees ws
+unfolding update_agrees
+whole ws eb ed eg r er el es et ee =
+    let r' = er ∙ (λ j. after_update false (ed j) (eg j) (eb j)) in
+    let s' = stands_in_rest 58 (guarded_words r) ws el es ∙ ap (λ (z : After). stands_at 58 (guarded_words z) ws) r' in
+    λ j. et j && (s' j && ee j)
+
+pub returns : goal.returns
+returns c = whole c.args.words.now c.rest.ensures c.mark.ensures c.number.ensures c.update_in-r.result c.update_in-r.ensures c.rest-2.ensures c.guarded_stands-same.ensures c.two_stands.ensures c.ends.ensures

@@ -1,0 +1,17 @@
+-- `vectors::line::begins_with_samples` meets its contract. Assumes nothing.
+use mathlib.Core.Path.{◌≡◌, refl, sym, ◌∙◌}
+use mathlib.Core.List.{map}
+use Prim.Native.Nat.{◌-◌, ◌≤◌}
+use native.Mathlib.Omega.{arith}
+use borrow.Author.Rules.{rules}
+use lib.Ieee.{nan, binary32, to_bits}
+use lib.ListN.{length, drop}
+use Rattle.vectors.specs.Code.Standing.{standing}
+use Rattle.vectors.proofs.LineLaws.{patterns_next, patterns_differ, patterns_missing, patterns_end}
+use Rattle.vectors.proofs.line.begins_with_samples.Given as goal
+
+abbrev pub invariant-loop-k : goal.invariant-loop-k
+invariant-loop-k l = (standing (drop l.k (map (to_bits binary32) l.list)) (drop l.k l.words) ≡ standing (map (to_bits binary32) l.list) l.words) × (l.k ≤ length l.list)
+
+abbrev pub decreases-loop-k : goal.decreases-loop-k
+decreases-loop-k l = length l.list - l.k
