@@ -37,28 +37,28 @@ module _ (f : TrackerWindow → TrackerWindow) (h : Tracked) (w : List Float) {r
   abbrev p : List Float
   p = (f (h, part)).1
 
-  done-0 : r ≡ (f (h, part)).0
+  done_0 : r ≡ (f (h, part)).0
   unfolding within
-  done-0 = ap (λ (z : TrackerWindow). z.0) done
+  done_0 = ap (λ (z : TrackerWindow). z.0) done
 
-  done-1 : w1 ≡ replaced 2048 2048 w p
+  done_1 : w1 ≡ replaced 2048 2048 w p
   unfolding within
-  done-1 = ap (λ (z : TrackerWindow). z.1) done
+  done_1 = ap (λ (z : TrackerWindow). z.1) done
 
   lp : length p ≡ 2048
-  lp = part_length w p l (ap length (sym done-1) ∙ l1)
+  lp = part_length w p l (ap length (sym done_1) ∙ l1)
 
-  copied-1 : stretch 2048 2048 w1 ≡ p
-  copied-1 = ap (stretch 2048 2048) done-1 ∙ stretch-replaced w 2048 2048 p nan (omega arith) lp
+  copied_1 : stretch 2048 2048 w1 ≡ p
+  copied_1 = ap (stretch 2048 2048) done_1 ∙ stretch-replaced w 2048 2048 p nan (omega arith) lp
 
   ahead_2 : stretch 4096 2048 w1 ≡ part
-  ahead_2 = ap (stretch 4096 2048) done-1 ∙ stretch-apart w 2048 2048 p nan (omega arith) lp 4096 2048 (omega arith) (inr (omega arith)) ∙ level.s2
+  ahead_2 = ap (stretch 4096 2048) done_1 ∙ stretch-apart w 2048 2048 p nan (omega arith) lp 4096 2048 (omega arith) (inr (omega arith)) ∙ level.s2
 
   ahead_3 : stretch 6144 2048 w1 ≡ part
-  ahead_3 = ap (stretch 6144 2048) done-1 ∙ stretch-apart w 2048 2048 p nan (omega arith) lp 6144 2048 (omega arith) (inr (omega arith)) ∙ level.s3
+  ahead_3 = ap (stretch 6144 2048) done_1 ∙ stretch-apart w 2048 2048 p nan (omega arith) lp 6144 2048 (omega arith) (inr (omega arith)) ∙ level.s3
 
   put_2 : w2 ≡ replaced 4096 2048 w1 p
-  put_2 = e2 ∙ ap (replaced 4096 2048 w1) copied-1
+  put_2 = e2 ∙ ap (replaced 4096 2048 w1) copied_1
 
   l2 : length w2 ≡ 8192
   l2 = ap length put_2 ∙ length-replaced w1 4096 2048 p nan (omega arith) lp ∙ l1
@@ -67,22 +67,22 @@ module _ (f : TrackerWindow → TrackerWindow) (h : Tracked) (w : List Float) {r
   put_3 =
       e3
       ∙ ap (replaced 6144 2048 w2)
-      (ap (stretch 2048 2048) put_2 ∙ stretch-apart w1 4096 2048 p nan (omega arith) lp 2048 2048 (omega arith) (inl (omega arith)) ∙ copied-1)
+      (ap (stretch 2048 2048) put_2 ∙ stretch-apart w1 4096 2048 p nan (omega arith) lp 2048 2048 (omega arith) (inl (omega arith)) ∙ copied_1)
 
-  last-3 : stretch 6144 2048 w2 ≡ part
-  last-3 = ap (stretch 6144 2048) put_2 ∙ stretch-apart w1 4096 2048 p nan (omega arith) lp 6144 2048 (omega arith) (inr (omega arith)) ∙ ahead_3
+  last_3 : stretch 6144 2048 w2 ≡ part
+  last_3 = ap (stretch 6144 2048) put_2 ∙ stretch-apart w1 4096 2048 p nan (omega arith) lp 6144 2048 (omega arith) (inr (omega arith)) ∙ ahead_3
 
-  on-2 : (r, w2) ≡ within 4096 2048 f (h, w1)
-  on-2 = ap (λ (z : Tracked). (z, w2)) done-0 ∙ ap (λ (z : List Float). ((f (h, part)).0, z)) put_2 ∙ again 4096 f h part w1 ahead_2
+  on_2 : (r, w2) ≡ within 4096 2048 f (h, w1)
+  on_2 = ap (λ (z : Tracked). (z, w2)) done_0 ∙ ap (λ (z : List Float). ((f (h, part)).0, z)) put_2 ∙ again 4096 f h part w1 ahead_2
 
-  on-3 : (r, w3) ≡ within 6144 2048 f (h, w2)
-  on-3 = ap (λ (z : Tracked). (z, w3)) done-0 ∙ ap (λ (z : List Float). ((f (h, part)).0, z)) put_3 ∙ again 6144 f h part w2 last-3
+  on_3 : (r, w3) ≡ within 6144 2048 f (h, w2)
+  on_3 = ap (λ (z : Tracked). (z, w3)) done_0 ∙ ap (λ (z : List Float). ((f (h, part)).0, z)) put_3 ∙ again 6144 f h part w2 last_3
 
-  pub one-for-three : (r, r, r, w3) ≡ thrice f (h, w)
+  pub one_for_three : (r, r, r, w3) ≡ thrice f (h, w)
   unfolding thrice
-  one-for-three =
+  one_for_three =
       let h0 = within 2048 2048 f (h, w) in
       let h1 = within 4096 2048 f (h, h0.1) in
-      let g1 : (r, w2) ≡ h1 = on-2 ∙ ap (λ (z : TrackerWindow). within 4096 2048 f (h, z.1)) done in
-      let g2 : (r, w3) ≡ within 6144 2048 f (h, h1.1) = on-3 ∙ ap (λ (z : TrackerWindow). within 6144 2048 f (h, z.1)) g1 in
+      let g1 : (r, w2) ≡ h1 = on_2 ∙ ap (λ (z : TrackerWindow). within 4096 2048 f (h, z.1)) done in
+      let g2 : (r, w3) ≡ within 6144 2048 f (h, h1.1) = on_3 ∙ ap (λ (z : TrackerWindow). within 6144 2048 f (h, z.1)) g1 in
       ap (λ (z : TrackerWindow). (z.0, r, r, w3)) done ∙ ap (λ (z : TrackerWindow). (h0.0, z.0, r, w3)) g1 ∙ ap (λ (z : TrackerWindow). (h0.0, h1.0, z.0, z.1)) g2

@@ -20,11 +20,11 @@ module _ (b : EkfTrackingBank) where
     unfolding faded
     goes_on = ap further e ∙ sym (cond_yes _ _ (lt-ltb _ _ l))
 
-    pub fade-ends : b.max_fade_steps < n → marked b 3 false n true ≡ faded b
-    fade-ends h = sym (cond_yes _ _ (lt-ltb _ _ h)) ∙ goes_on
+    pub fade_ends : b.max_fade_steps < n → marked b 3 false n true ≡ faded b
+    fade_ends h = sym (cond_yes _ _ (lt-ltb _ _ h)) ∙ goes_on
 
-    pub fade-lasts : n ≤ b.max_fade_steps → marked b b.active_idx true n b.terminated_in_fade ≡ faded b
-    fade-lasts h = sym (cond_no _ _ (le-ltb _ _ h)) ∙ goes_on
+    pub fade_lasts : n ≤ b.max_fade_steps → marked b b.active_idx true n b.terminated_in_fade ≡ faded b
+    fade_lasts h = sym (cond_no _ _ (le-ltb _ _ h)) ∙ goes_on
 
   pub none_in_use : 3 ≤ b.active_idx → b ≡ faded b
   unfolding faded
@@ -32,15 +32,15 @@ module _ (b : EkfTrackingBank) where
 
   module _ {i : ℕ} (e : i ≡ chosen b) where
     -- the number of the choice being j
-    abbrev by-choice : ℕ → EkfTrackingBank
-    by-choice j = cond (ltb j 3) (marked b j false 0 b.terminated_in_fade) (faded b)
+    abbrev by_choice : ℕ → EkfTrackingBank
+    by_choice j = cond (ltb j 3) (marked b j false 0 b.terminated_in_fade) (faded b)
 
-    chosen-is-selected : by-choice i ≡ selected b
+    chosen_is_selected : by_choice i ≡ selected b
     unfolding selected
-    chosen-is-selected = ap by-choice e
+    chosen_is_selected = ap by_choice e
 
-    pub one-chosen : i < 3 → marked b i false 0 b.terminated_in_fade ≡ selected b
-    one-chosen h = sym (cond_yes _ _ (lt-ltb _ _ h)) ∙ chosen-is-selected
+    pub one_chosen : i < 3 → marked b i false 0 b.terminated_in_fade ≡ selected b
+    one_chosen h = sym (cond_yes _ _ (lt-ltb _ _ h)) ∙ chosen_is_selected
 
-    pub none-chosen : {r : EkfTrackingBank} → 3 ≤ i → r ≡ faded b → r ≡ selected b
-    none-chosen h er = er ∙ sym (cond_no _ _ (le-ltb _ _ h)) ∙ chosen-is-selected
+    pub none_chosen : {r : EkfTrackingBank} → 3 ≤ i → r ≡ faded b → r ≡ selected b
+    none_chosen h er = er ∙ sym (cond_no _ _ (le-ltb _ _ h)) ∙ chosen_is_selected

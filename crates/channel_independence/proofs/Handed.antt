@@ -74,52 +74,52 @@ handed_back h (lend l w) z = given_back_lem h w z
 -- ---- whole lists, of any calls that leave window memory at its length
 module _ {X : Type 0} (m : Interface X)
     (stays : (x : X) (l : Lend) (w : List Float) → length w ≡ 8192 → length (m.calls x (lend l w)).memory.windows ≡ 8192) where
-  sized-next : (h : Held X) (c : Call) → Sized h → Sized (next m h c)
+  sized_next : (h : Held X) (c : Call) → Sized h → Sized (next m h c)
   unfolding Sized next left_after
-  sized-next h (ask a) z = z
-  sized-next h (lend l w) z = go (eqb (length w) 8192) refl
+  sized_next h (ask a) z = z
+  sized_next h (lend l w) z = go (eqb (length w) 8192) refl
     where
       go : (s : Bool) → eqb (length w) 8192 ≡ s → (n : List Float) → cond s (some (m.calls h.channel (lend l w)).memory.windows) h.left ≡ some n
           → length n ≡ 8192
       go true e n f = let p : (m.calls h.channel (lend l w)).memory.windows ≡ n = cc in rw (← p) (stays h.channel l w (eqb-true (length w) 8192 e))
       go false e n f = z n f
 
-  equal-all : (h : Held X) (cs : List Call) → Sized h → Places Equal cs (handed_all m h cs)
+  equal_all : (h : Held X) (cs : List Call) → Sized h → Places Equal cs (handed_all m h cs)
   unfolding handed_all
-  equal-all h [] z = runs.none
-  equal-all h (c ∷ cs) z = runs.place (handed_equal h c z) (equal-all (next m h (handed h c)) cs (sized-next h (handed h c) z))
+  equal_all h [] z = runs.none
+  equal_all h (c ∷ cs) z = runs.place (handed_equal h c z) (equal_all (next m h (handed h c)) cs (sized_next h (handed h c) z))
 
-  back-all : (h : Held X) (cs : List Call) → Sized h → Along (next m) HandsBack h (handed_all m h cs)
+  back_all : (h : Held X) (cs : List Call) → Sized h → Along (next m) HandsBack h (handed_all m h cs)
   unfolding handed_all Along
-  back-all h [] z = tt
-  back-all h (c ∷ cs) z = (handed_back h c z, back-all (next m h (handed h c)) cs (sized-next h (handed h c) z))
+  back_all h [] z = tt
+  back_all h (c ∷ cs) z = (handed_back h c z, back_all (next m h (handed h c)) cs (sized_next h (handed h c) z))
 
-  both-all : (g h : Held X) (cs : List Call) → Sized g → Sized h → Places Equal (handed_all m g cs) (handed_all m h cs)
+  both_all : (g h : Held X) (cs : List Call) → Sized g → Sized h → Places Equal (handed_all m g cs) (handed_all m h cs)
   unfolding handed_all
-  both-all g h [] y z = runs.none
-  both-all g h (c ∷ cs) y z =
-      runs.place (handed_both g h c y z) (both-all (next m g (handed g c)) (next m h (handed h c)) cs (sized-next g (handed g c) y) (sized-next h (handed h c) z))
+  both_all g h [] y z = runs.none
+  both_all g h (c ∷ cs) y z =
+      runs.place (handed_both g h c y z) (both_all (next m g (handed g c)) (next m h (handed h c)) cs (sized_next g (handed g c) y) (sized_next h (handed h c) z))
 
-  opened-sized : (s : Settings) → Sized (just_opened m s)
+  opened_sized : (s : Settings) → Sized (just_opened m s)
   unfolding Sized just_opened
-  opened-sized s n e = cc
+  opened_sized s n e = cc
 
-  own-sized : (s : Settings) (own : List Call) → Sized (after_own m s own)
+  own_sized : (s : Settings) (own : List Call) → Sized (after_own m s own)
   unfolding after_own
-  own-sized s own = invariant (next m) Sized sized-next (just_opened m s) own (opened-sized s)
+  own_sized s own = invariant (next m) Sized sized_next (just_opened m s) own (opened_sized s)
 
-  pub all-reached : Reached m
+  pub all_reached : Reached m
   unfolding Reached
-  all-reached s own₁ own₂ cs =
+  all_reached s own₁ own₂ cs =
       let g = after_own m s own₁ in
       let h = after_own m s own₂ in
-      let y = own-sized s own₁ in
-      let z = own-sized s own₂ in (
+      let y = own_sized s own₁ in
+      let z = own_sized s own₂ in (
         handed_all m g cs,
         handed_all m h cs,
-        record { equal = equal-all g cs y; handed = back-all g cs y },
-        record { equal = equal-all h cs z; handed = back-all h cs z },
-        both-all g h cs y z,
+        record { equal = equal_all g cs y; handed = back_all g cs y },
+        record { equal = equal_all h cs z; handed = back_all h cs z },
+        both_all g h cs y z,
       )
 
 -- ---- the channel's own: a block leaves window memory at its length
@@ -138,4 +138,4 @@ lend_length c (block b) w e = block_length c b w e
 
 pub every_list : EveryList
 unfolding EveryList
-every_list = all-reached model lend_length
+every_list = all_reached model lend_length

@@ -7,7 +7,7 @@ use native.Mathlib.Omega.{arith}
 use lib.IntN.{negsuc}
 use lib.Dec.{T, lit<, lit≤}
 use lib.Pow.{pow_pos, pow-add}
-use lib.Ieee.{Float, fin, neg, lt, of_bits, of_int, mul, minus}
+use lib.Ieee.{Float, fin, neg, lt, of_bits, of_int, mul}
 use lib.Ieee.Positive.{num, den}
 use Rattle.ieee754.specs.Sign.{plus_zero}
 use Rattle.ieee754.specs.Binary64.{two_to_minus81}

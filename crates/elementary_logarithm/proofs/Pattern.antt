@@ -10,7 +10,6 @@ use lib.Pow.{pow_pos, pow-add, pow_mono, shl_lt}
 use lib.Count.{count_leading_zeros, leading_top}
 use lib.Ieee.{Float, fin, binary64, up, down, neg, fits, to_bits}
 use lib.Ieee.Fits.{up_pos, and_l, and_r}
-use lib.Ieee.Scale.{finite}
 use Rattle.ieee754.specs.Binary64.{two_to_minus81}
 use Rattle.ieee754.proofs.Fields.{below-infinity, size_low, size-normal, unsigned}
 use Rattle.elementary_fixed_point.specs.Conversion.{scaled}

@@ -7,7 +7,7 @@ use native.Mathlib.Omega.{arith}
 use lib.IntN.{pos, negsuc}
 use lib.Dec.{T, ltb, ltb→lt, nltb→le, lit<}
 use lib.Pow.{pow_pos, pow-add, pow_mono}
-use lib.Ieee.{Float, nan, inf, fin, binary64, up, down, round, neg, le, lt, of_int, fits}
+use lib.Ieee.{Float, nan, inf, fin, binary64, up, down, round, neg, of_int, fits}
 use lib.Ieee.Fits.{round-fits}
 use lib.Ieee.Exact.{HasValue}
 use lib.Ieee.Back.{round_whole}

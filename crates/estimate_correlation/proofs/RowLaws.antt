@@ -69,8 +69,8 @@ module _ (f : ℕ → List Float) (i : ℕ) (a a₀ : List Float) {v : List Floa
       let m : 20 * (i + 1) ≡ 20 * i + 20 = omega arith in
       rw (← append_assoc (take (20 * i) a) v (drop (20 * i + 20 - 20 * i) (drop (20 * i) a)), drop_at (take (20 * i) a ++ v) _ (20 * (i + 1)) front, n, same, drop-drop 20 (20 * i) a₀, m)
 
-  pub rows-length : length (take (20 * i) a ++ (v ++ drop (20 * i + 20 - 20 * i) (drop (20 * i) a))) ≡ 200
-  rows-length = simp (length-append, length-drop) (omega (arith, length-take-le (20 * i) a (omega arith), ap length ev))
+  pub rows_length : length (take (20 * i) a ++ (v ++ drop (20 * i + 20 - 20 * i) (drop (20 * i) a))) ≡ 200
+  rows_length = simp (length-append, length-drop) (omega (arith, length-take-le (20 * i) a (omega arith), ap length ev))
 
 pub rows_start : (f : ℕ → List Float) → [] ≡ rows 0 f
 unfolding rows

@@ -8,7 +8,7 @@ use lib.ListN.{length}
 use lib.Dec.{eqb}
 use lib.Ieee.{Float}
 use Rattle.state_machines.specs.Runs.{after, answers, Along, Places}
-use Rattle.state_machines.proofs.Projection.{projected-after, projected-answers, projected-along}
+use Rattle.state_machines.proofs.Projection.{projected_after, projected_answers, projected_along}
 use Rattle.channel_model.specs.declared.Settings.{Settings}
 use Rattle.channel_model.specs.declared.Channel.{Channel}
 use Rattle.channel_model.specs.declared.Answer.{Answer}
@@ -18,7 +18,7 @@ use Rattle.channel_c_layout.specs.Channels.{real_channel}
 use Rattle.channel_independence.specs.Held.{Held, just_opened, left_after, next, compared, answer, HandsBack}
 use Rattle.channel_independence.specs.Demand3.{OneFrequency, after_own, Independent, Demand3, IndependentOfOne, SameCalls}
 use Rattle.channel_independence.proofs.Demand3.{demand3, same_calls}
-use Rattle.channel_independence.proofs.Handed.{all-reached, lend_length}
+use Rattle.channel_independence.proofs.Handed.{all_reached, lend_length}
 use Rattle.gibsumac_claims.specs.Exported.{exported}
 use Rattle.gibsumac_claims.specs.Demand3C.{Demand3C, SameCallsC, EveryListC}
 use Rattle.gibsumac_claims.proofs.Seen.{seen, open_seen, call_seen}
@@ -75,20 +75,20 @@ same_list cs = map-id cs
 own_same : (s : Settings) (own : List Call) → real (after_own exported s own) ≡ after_own model s own
 unfolding after_own
 own_same s own =
-    projected-after (next exported) (next model) real same All (λ h c i. tt) leads (just_opened exported s) own tt
+    projected_after (next exported) (next model) real same All (λ h c i. tt) leads (just_opened exported s) own tt
     ∙ (λ j. after (next model) (opened_same s j) (same_list own j))
 
 answers_same : (s : Settings) (own cs : List Call)
     → answers (next exported) (answer exported) (after_own exported s own) cs ≡ answers (next model) (answer model) (after_own model s own) cs
 answers_same s own cs =
     sym (map-id (answers (next exported) (answer exported) (after_own exported s own) cs))
-    ∙ projected-answers (next exported) (next model) real same All (λ h c i. tt) leads (answer exported) (answer model) (λ a. a) tells (after_own exported s own) cs tt
+    ∙ projected_answers (next exported) (next model) real same All (λ h c i. tt) leads (answer exported) (answer model) (λ a. a) tells (after_own exported s own) cs tt
     ∙ (λ j. answers (next model) (answer model) (own_same s own j) (same_list cs j))
 
 handed_same : (s : Settings) (own cs : List Call) → Along (next exported) HandsBack (after_own exported s own) cs → Along (next model) HandsBack (after_own model s own) cs
 handed_same s own cs x =
     subst₂ (λ (h : Held Channel) (ds : List Call). Along (next model) HandsBack h ds) (own_same s own) (same_list cs)
-    (projected-along (next exported) (next model) real same All (λ h c i. tt) leads HandsBack HandsBack hands (after_own exported s own) cs tt x)
+    (projected_along (next exported) (next model) real same All (λ h c i. tt) leads HandsBack HandsBack hands (after_own exported s own) cs tt x)
 
 one_frequency : (s : Settings) → OneFrequency exported s → OneFrequency model s
 unfolding OneFrequency seen
@@ -113,4 +113,4 @@ windows_stay p l w e = ap (λ (m : Memory). length m.windows) (memory_same p (le
 
 pub every_list_c : EveryListC
 unfolding EveryListC
-every_list_c = all-reached exported windows_stay
+every_list_c = all_reached exported windows_stay

@@ -1,5 +1,5 @@
 -- `convert binary32` at each range of an `f64`'s pattern. Assumes nothing.
-use Rattle.std.proofs.Common.{◌≡◌, ℕ, zero, suc, ◌+◌, ◌-◌, ◌*◌, ◌/◌, ◌%◌, ◌^◌, ◌<◌, ◌≤◌, Bool, true, false, cond, not, T, eqb, ltb, ◌⊎◌, sym, refl, ap, ◌∙◌, subst, inl, inr, zero-le, le_trans, le_of_eq, le_refl, lt_of_lt_of_le, lt_of_le_of_lt, le_of_lt, mul-le-mul_right, mod-eq_of_lt, mul_assoc, mul_comm, div-lt_iff_lt-mul, mul-le-mul, le_antisymm, mul-lt-mul_of_pos_right, mul-pos, pow-suc, le-div_iff_mul-le, zero-add, mul-one, mul_right_comm, not-le_of_lt, le_of_mul-le-mul_right, mul_left_comm, arith, lit<, lit≤, ltb→lt, nltb→le, pow_pos, pow_mono, pow-add, shl_lt}
+use Rattle.std.proofs.Common.{◌≡◌, ℕ, zero, suc, ◌+◌, ◌-◌, ◌*◌, ◌/◌, ◌%◌, ◌^◌, ◌<◌, ◌≤◌, Bool, true, false, cond, eqb, ◌⊎◌, sym, refl, ap, ◌∙◌, subst, inl, inr, zero-le, le_trans, le_of_eq, lt_of_lt_of_le, lt_of_le_of_lt, mul-le-mul_right, mod-eq_of_lt, mul_assoc, div-lt_iff_lt-mul, le_antisymm, mul-pos, pow-suc, le-div_iff_mul-le, zero-add, mul-one, not-le_of_lt, le_of_mul-le-mul_right, arith, lit≤, pow_pos, pow_mono, pow-add, shl_lt}
 use Prim.Native.Nat.{compare, Ordering}
 use native.Mathlib.Nat.{div-eq_of_lt}
 use lib.Ieee.{Float, nan, inf, fin, binary32, binary64, up, down, size, units, round, of_bits, nearest}
@@ -7,7 +7,7 @@ use lib.Ieee.Digits.{size-le}
 use lib.Ieee.Fits.{down_pos, nearest-le, round_is}
 use lib.Ieee.Exact.{HasValue}
 use lib.Ieee.Nearest.{closest, closest_same, nearest-ge}
-use lib.Ieee.Scale.{round_same, overflow}
+use lib.Ieee.Scale.{round_same}
 use Rattle.ieee754_rounding.proofs.Comparison.{Cmp, cmp, lt_or_le}
 use Rattle.ieee754.specs.Conversion.{convert}
 use Rattle.ieee754.proofs.Patterns.{size_is, units_bits, units_inf}

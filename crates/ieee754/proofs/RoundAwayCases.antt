@@ -1,6 +1,6 @@
 -- Rounding to a whole number, halves away from zero, by the ranges of the pattern that `ieee754::integral::round` tells apart. For any format,
 -- but for the half as its u64 shift has it. Assumes nothing.
-use Rattle.std.proofs.Common.{◌≡◌, ℕ, zero, suc, ◌+◌, ◌-◌, ◌*◌, ◌/◌, ◌%◌, ◌^◌, ◌<◌, ◌≤◌, Bool, true, false, cond, T, eqb, pos, sym, refl, ap, ◌∙◌, subst, inl, inr, le_trans, le_of_eq, lt_of_lt_of_le, lt_of_le_of_lt, le_of_lt, mod-eq_of_lt, zero-lt-suc, mul_assoc, add_comm, mul-pos, one-mul, mul-one, mul_right_comm, arith, lit≤, le→leb, pow_pos, pow_mono, pow-add, shl_lt}
+use Rattle.std.proofs.Common.{◌≡◌, ℕ, suc, ◌+◌, ◌-◌, ◌*◌, ◌/◌, ◌%◌, ◌^◌, ◌<◌, ◌≤◌, Bool, true, false, cond, T, eqb, pos, sym, refl, ap, ◌∙◌, subst, inl, inr, le_trans, le_of_eq, lt_of_lt_of_le, lt_of_le_of_lt, le_of_lt, mod-eq_of_lt, zero-lt-suc, mul_assoc, add_comm, mul-pos, one-mul, mul-one, mul_right_comm, arith, lit≤, le→leb, pow_pos, pow_mono, pow-add, shl_lt}
 use native.Mathlib.Nat.{div-eq_of_lt, eq_of_mul-eq-mul_right}
 use lib.Pow.{pow-lt}
 use lib.Ieee.{Float, nan, inf, fin, Format, binary32, binary64, prec, emax, low, hid, top, up, down, fits, neg, round, of_bits, to_bits, of_int, in_float}

@@ -1,5 +1,5 @@
 -- The absolute value, by the tests of `ieee754::sign`. For any format. Assumes nothing.
-use Rattle.std.proofs.Common.{◌≡◌, ℕ, zero, suc, ◌+◌, ◌*◌, ◌%◌, ◌<◌, ◌≤◌, Bool, true, false, not, ◌&&◌, ◌||◌, T, eqb, ltb, pos, sym, refl, ap, ◌∙◌, subst, true≢false, mod-eq_of_lt, arith, eqb→eq, ltb→lt, nltb→le, T_not}
+use Rattle.std.proofs.Common.{◌≡◌, ℕ, zero, suc, ◌+◌, ◌*◌, ◌%◌, ◌<◌, ◌≤◌, Bool, true, false, ◌&&◌, ◌||◌, T, eqb, ltb, sym, refl, ap, ◌∙◌, subst, true≢false, mod-eq_of_lt, arith, eqb→eq, ltb→lt, nltb→le, T_not}
 use native.Mathlib.Nat.{div-eq_of_lt}
 use lib.Ieee.{Float, nan, inf, fin, Format, hid, top, up, down, fits, lt, eq, neg, odd, of_fields, of_bits}
 use lib.Ieee.Fits.{and_l}

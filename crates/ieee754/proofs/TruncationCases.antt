@@ -1,5 +1,5 @@
 -- Truncation, by the tests of `ieee754::integral::to_usize`. Assumes nothing.
-use Rattle.std.proofs.Common.{◌≡◌, ℕ, ◌+◌, ◌-◌, ◌*◌, ◌/◌, ◌^◌, ◌<◌, ◌≤◌, min, Bool, true, false, not, ◌&&◌, ◌||◌, T, eqb, ltb, ◌⊎◌, pos, sym, refl, ap, ◌∙◌, subst, inl, inr, true≢false, le_of_eq, lt_of_lt_of_le, le_of_lt, mul-pos, le-div_iff_mul-le, arith, eqb→eq, ltb→lt, lt→ltb, nltb→le, T_not}
+use Rattle.std.proofs.Common.{◌≡◌, ℕ, ◌+◌, ◌-◌, ◌*◌, ◌/◌, ◌^◌, ◌<◌, ◌≤◌, min, Bool, true, false, not, ◌&&◌, ◌||◌, T, eqb, ltb, ◌⊎◌, pos, sym, refl, ap, ◌∙◌, inl, inr, true≢false, le_of_eq, lt_of_lt_of_le, le_of_lt, mul-pos, le-div_iff_mul-le, arith, eqb→eq, ltb→lt, lt→ltb, nltb→le, T_not}
 use native.Mathlib.Nat.{div-eq_of_lt}
 use lib.Arith.{lt_of_le-ne}
 use lib.Ieee.{Float, nan, inf, fin, binary64, up, down, lt, le, eq, of_bits, to_unsigned}

@@ -1,6 +1,6 @@
 -- Module 1: Rust's `round`, halves away from zero. At any format. (Truncation, `as usize`, is the logic's own `to_unsigned 64`.)
 -- Definitions only.
-use Rattle.std.specs.Prelude.{◌+◌, ◌-◌, ◌*◌, ◌/◌, Float}
+use Rattle.std.specs.Prelude.{◌+◌, ◌*◌, ◌/◌, Float}
 use Rattle.std.specs.Float.{nan, inf, fin, Format}
 use Rattle.std.specs.Float.Ieee.{up, down, round}
 

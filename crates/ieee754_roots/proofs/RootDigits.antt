@@ -1,5 +1,5 @@
 -- The arithmetic of the digit loop and of the check of a guess. Assumes nothing.
-use Rattle.std.proofs.Common.{◌≡◌, ℕ, zero, suc, ◌+◌, ◌-◌, ◌*◌, ◌/◌, ◌%◌, ◌^◌, ◌<◌, ◌≤◌, Bool, true, false, ltb, ◌⊎◌, sym, refl, ap, ◌∙◌, subst, inl, inr, le_trans, le_of_eq, lt_of_lt_of_le, lt_of_le_of_lt, mod-lt, mul-le-mul, mul-le-mul_left, pow-suc, arith, lit≤, pow_mono, shr-shr, le-ltb, lt-ltb}
+use Rattle.std.proofs.Common.{◌≡◌, ℕ, zero, suc, ◌+◌, ◌-◌, ◌*◌, ◌/◌, ◌%◌, ◌^◌, ◌<◌, ◌≤◌, Bool, true, false, ltb, ◌⊎◌, refl, ap, ◌∙◌, subst, inl, inr, lt_of_lt_of_le, mul-le-mul, mul-le-mul_left, arith, lit≤, pow_mono, shr-shr, le-ltb, lt-ltb}
 use lib.Pow.{shr_le}
 use lib.Bits.{bit_and, and_mask}
 use mir.Val.{bool_byte}

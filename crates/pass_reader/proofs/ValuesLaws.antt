@@ -38,23 +38,23 @@ module _ (s v : List ℕ) (at end k : ℕ) (within : at ≤ length s) (found : e
   unfolding decimals
   here = so_far ∙ ap (λ (f : List (List ℕ)). front (take k v) (decimals f)) (fields_at s at end within found)
 
-  pub no-decimal : none ≡ decimal_of (take (end - at) (drop at s)) → decimals (fields s) ≡ none
+  pub no_decimal : none ≡ decimal_of (take (end - at) (drop at s)) → decimals (fields s) ≡ none
   unfolding bind
-  no-decimal e = here ∙ rw (← e)
+  no_decimal e = here ∙ rw (← e)
 
-  pub one-decimal : (x : ℕ) → k < length v → some x ≡ decimal_of (take (end - at) (drop at s))
+  pub one_decimal : (x : ℕ) → k < length v → some x ≡ decimal_of (take (end - at) (drop at s))
       → decimals (fields s) ≡ front (take (k + 1) (set v k x)) (decimals (fields_after s end))
   unfolding bind
-  one-decimal x h e = here ∙ rw (← e, front_ahead (take k v) x (decimals (fields_after s end)), add-one k, take-suc-set v k x h)
+  one_decimal x h e = here ∙ rw (← e, front_ahead (take k v) x (decimals (fields_after s end)), add-one k, take-suc-set v k x h)
 
-  pub more-decimals : (x : ℕ) → k < length v → some x ≡ decimal_of (take (end - at) (drop at s)) → end < length s
+  pub more_decimals : (x : ℕ) → k < length v → some x ≡ decimal_of (take (end - at) (drop at s)) → end < length s
       → decimals (fields s) ≡ front (take (k + 1) (set v k x)) (decimals (fields (drop (end + 1) s)))
-  more-decimals x h e l = one-decimal x h e ∙ rw (after_space s at end within found l)
+  more_decimals x h e l = one_decimal x h e ∙ rw (after_space s at end within found l)
 
-  pub last-decimal : (x : ℕ) → k < length v → some x ≡ decimal_of (take (end - at) (drop at s)) → length s ≤ end
+  pub last_decimal : (x : ℕ) → k < length v → some x ≡ decimal_of (take (end - at) (drop at s)) → length s ≤ end
       → decimals (fields s) ≡ some (take (k + 1) (set v k x))
   unfolding decimals
-  last-decimal x h e l = one-decimal x h e ∙ rw (after_last s at end within found l, append-nil)
+  last_decimal x h e l = one_decimal x h e ∙ rw (after_last s at end within found l, append-nil)
 
 -- what numbers say
 pub none_say : {o : Option (List ℕ)} → o ≡ none → none ≡ bind o nine_values

@@ -161,16 +161,16 @@ module _ (s : List ℕ) (g : ChunkRun) (h : g.at ≤ length g.out) (k : g.used �
 -- what a run over a chunk returned is within the chunk and the buffer
 module _ (s : List ℕ) (p : Pass) (w : List Float) (at : ℕ) (out : List ℕ) (r : Ran) (w' : List Float) (out' : List ℕ)
     (e : as_chunk_run r w' out' ≡ lines_run (lines s) (record { pass = p; windows = w; used = 0; at = at; out = out })) (h : at ≤ length out) where
-  pub ran-used : r.used ≤ length s
+  pub ran_used : r.used ≤ length s
   unfolding as_chunk_run
-  ran-used =
+  ran_used =
       let a = chunk_used s (record { pass = p; windows = w; used = 0; at = at; out = out }) h (omega arith) in
       let b = ap (λ (g : ChunkRun). g.used) e in
       omega arith
 
-  pub ran-within : r.at ≤ length out'
+  pub ran_within : r.at ≤ length out'
   unfolding as_chunk_run
-  ran-within =
+  ran_within =
       let a = chunk_within s (record { pass = p; windows = w; used = 0; at = at; out = out }) h (omega arith) in
       let b = ap (λ (g : ChunkRun). g.at) e in
       let d = ap (λ (g : ChunkRun). length g.out) e in

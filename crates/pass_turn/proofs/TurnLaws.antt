@@ -114,15 +114,15 @@ module _ (from to left : ℕ) (buf new : List ℕ) (e : (left, new) ≡ carried 
 
 module _ (s : List ℕ) (p : Pass) (w : List Float) (out : List ℕ) (r : Ran) (w' : List Float) (out' : List ℕ)
     (e : as_chunk_run r w' out' ≡ lines_run (lines s) (record { pass = p; windows = w; used = 0; at = 0; out = out })) where
-  ran-listed : (more : List ℕ) → list_after (onward p w) (s ++ more) ≡ list_after (held_in r.pass w' r.at out') (drop r.used s ++ more)
+  ran_listed : (more : List ℕ) → list_after (onward p w) (s ++ more) ≡ list_after (held_in r.pass w' r.at out') (drop r.used s ++ more)
   unfolding as_chunk_run
-  ran-listed more =
+  ran_listed more =
       chunk_listed s (record { pass = p; windows = w; used = 0; at = 0; out = out }) (omega arith) (omega arith) more
       ∙ ap (λ (g : ChunkRun). list_after (waiting g) (drop g.used s ++ more)) (sym e)
 
-  pub turn-stops : is_stopped r.pass.stage ≡ true → (after : Run) (left : List ℕ) → Turned Refused (onward p w) s (take r.at out') after left
+  pub turn_stops : is_stopped r.pass.stage ≡ true → (after : Run) (left : List ℕ) → Turned Refused (onward p w) s (take r.at out') after left
   unfolding Turned
-  turn-stops z after left more = ran-listed more ∙ stopped_listed (held_in r.pass w' r.at out') z (drop r.used s ++ more)
+  turn_stops z after left more = ran_listed more ∙ stopped_listed (held_in r.pass w' r.at out') z (drop r.used s ++ more)
 
   pub no_line : leb (r.at + longest) (length out') ≡ true → NoLine (drop r.used s)
   unfolding as_chunk_run run_has_room
@@ -131,9 +131,9 @@ module _ (s : List ℕ) (p : Pass) (w : List Float) (out : List ℕ) (r : Ran) (
       let b = all_judged s (lines s) (record { pass = p; windows = w; used = 0; at = 0; out = out }) refl a in
       no_line_left (drop r.used s) (ap (λ (g : ChunkRun). lines (drop g.used s)) e ∙ b)
 
-  pub some-used : leb longest (length out) ≡ true → leb (r.at + longest) (length out') ≡ false → 0 < r.used
+  pub some_used : leb longest (length out) ≡ true → leb (r.at + longest) (length out') ≡ false → 0 < r.used
   unfolding as_chunk_run run_has_room
-  some-used room full =
+  some_used room full =
       let a : run_has_room (lines_run (lines s) (record { pass = p; windows = w; used = 0; at = 0; out = out })) ≡ false = ap run_has_room (sym e) ∙ full in
       let b = got_on s (lines s) (record { pass = p; windows = w; used = 0; at = 0; out = out }) refl room a in
       let u = ap (λ (g : ChunkRun). g.used) e in
@@ -142,7 +142,7 @@ module _ (s : List ℕ) (p : Pass) (w : List Float) (out : List ℕ) (r : Ran) (
   module _ (left : List ℕ) (front : left ≡ drop r.used s) where
     goes : (more : List ℕ) → list_after (onward p w) (s ++ more) ≡ take r.at out' ++ list_after (onward r.pass w') (left ++ more)
     goes more =
-        ran-listed more ∙ ap (λ (l : List ℕ). list_after (held_in r.pass w' r.at out') (l ++ more)) (sym front)
+        ran_listed more ∙ ap (λ (l : List ℕ). list_after (held_in r.pass w' r.at out') (l ++ more)) (sym front)
         ∙ waits_in_front r.pass w' r.at out' (left ++ more)
 
     pub turn-again : Turned Turn (onward p w) s (take r.at out') (onward r.pass w') left
@@ -163,16 +163,16 @@ module _ (s : List ℕ) (p : Pass) (w : List Float) (out : List ℕ) (r : Ran) (
 
 module _ (p : Pass) (held : List ℕ) (at : ℕ) (out : List ℕ) (j : Judged) (out' : List ℕ)
     (e : as_printed j out' ≡ printed (input_ended p.stage p held) at out) (room : at + longest ≤ length out) where
-  closed-waits : (w : List Float) → closed (held_in p w at out) held ≡ take j.at out'
+  closed_waits : (w : List Float) → closed (held_in p w at out) held ≡ take j.at out'
   unfolding as_printed
-  closed-waits w = sym (end_waits p w held at out room) ∙ ap (λ (x : Printed). take x.at x.out) (sym e)
+  closed_waits w = sym (end_waits p w held at out room) ∙ ap (λ (x : Printed). take x.at x.out) (sym e)
 
-  pub end-made : NoLine held → (w : List Float) → list_after (held_in p w at out) held ≡ take j.at out'
-  end-made plain w = end_listed (held_in p w at out) held plain ∙ closed-waits w
+  pub end_made : NoLine held → (w : List Float) → list_after (held_in p w at out) held ≡ take j.at out'
+  end_made plain w = end_listed (held_in p w at out) held plain ∙ closed_waits w
 
-  pub long-made : TooLong p held → (w : List Float) (more : List ℕ) → take at out ++ list_after (onward p w) (held ++ more) ≡ take j.at out'
-  long-made t w more =
-      sym (waits_in_front p w at out (held ++ more)) ∙ long_listed (held_in p w at out) held more t.going t.plain t.long ∙ closed-waits w
+  pub long_made : TooLong p held → (w : List Float) (more : List ℕ) → take at out ++ list_after (onward p w) (held ++ more) ≡ take j.at out'
+  long_made t w more =
+      sym (waits_in_front p w at out (held ++ more)) ∙ long_listed (held_in p w at out) held more t.going t.plain t.long ∙ closed_waits w
 
 -- ---- the first bytes
 

@@ -55,12 +55,12 @@ pub data AgreeOrPart {S T C D A B : Type 0} (next : S → C → S) (next' : T �
 module _ {S T C D A B : Type 0} (next : S → C → S) (next' : T → D → T) (answer : S → C → A) (answer' : T → D → B)
     (R : S → T → Type 0) (E : C → D → Type 0) (P : S → C → Type 0) (P' : T → D → Type 0) (Q Z : A → B → Type 0)
     (step : (s : S) (t : T) (c : C) (d : D) → R s t → E c d → P s c → P' t d → AgreeOrPart next next' answer answer' R Q Z s t c d) where
-  pub lockstep-until : {cs : List C} {ds : List D} (s : S) (t : T) → R s t → Places E cs ds → Along next P s cs → Along next' P' t ds
+  pub lockstep_until : {cs : List C} {ds : List D} (s : S) (t : T) → R s t → Places E cs ds → Along next P s cs → Along next' P' t ds
       → Until Q Z (answers next answer s cs) (answers next' answer' t ds)
   unfolding answers Along
-  lockstep-until s t r none p q = end
-  lockstep-until s t r (place {a = c} {b = d} e es) p q =
+  lockstep_until s t r none p q = end
+  lockstep_until s t r (place {a = c} {b = d} e es) p q =
       elim (step s t c d r e p.0 q.0) [
-        | agree now ↦ before now.agreed (lockstep-until (next s c) (next' t d) now.related es p.1 q.1)
+        | agree now ↦ before now.agreed (lockstep_until (next s c) (next' t d) now.related es p.1 q.1)
         | part z ↦ stop z
       ]

@@ -1,5 +1,5 @@
 -- Prediction of the covariance (the scope, module 3): P becomes F·P·Fᵀ + Q, F-as-P first, and then the mean of P and its transpose. Definitions only.
-use Rattle.std.specs.Prelude.{ℕ, List, Float}
+use Rattle.std.specs.Prelude.{List, Float}
 use Rattle.tracker_covariance.specs.declared.prediction.ProcessNoise.{ProcessNoise}
 use Rattle.ieee754.specs.Binary64.{plus, times, half}
 use Rattle.tracker_covariance.specs.Matrix.{at, matrix}

@@ -1,6 +1,5 @@
 -- `reduced` meets its contract.
 use mathlib.Core.Path.{sym, subst}
-use borrow.Author.Rules.{rules}
 use lib.Dec.{T}
 use Rattle.elementary_reduction.proofs.Pattern.{far_no_nan, exponent, reduced_is}
 use Rattle.elementary_reduction.proofs.reduced.Goals as goal

@@ -1,7 +1,6 @@
 -- `cos` meets its contract.
 use mathlib.Core.Path.{◌≡◌, sym, subst, ◌∙◌}
 use mathlib.Core.Bool.{false}
-use borrow.Author.Rules.{rules}
 use lib.Dec.{T}
 use lib.Ieee.{Float, lt}
 use Rattle.elementary_sincos.proofs.Cases as cases

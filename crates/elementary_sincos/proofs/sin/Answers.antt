@@ -1,7 +1,6 @@
 -- `sin` meets its contract.
 use mathlib.Core.Path.{◌≡◌, sym, subst}
 use mathlib.Core.Bool.{true, false}
-use borrow.Author.Rules.{rules}
 use lib.Dec.{T}
 use lib.Ieee.{Float, lt}
 use Rattle.ieee754.specs.Binary64.{two_to_minus16}

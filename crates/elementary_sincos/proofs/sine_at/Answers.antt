@@ -1,6 +1,5 @@
 -- `sine_at` meets its contract.
 use mathlib.Core.Path.{◌∙◌}
-use borrow.Author.Rules.{rules}
 use Rattle.elementary_sincos.proofs.Cases.{fourth_below, sine_from_lem}
 use Rattle.elementary_sincos.proofs.sine_at.Goals as goal
 

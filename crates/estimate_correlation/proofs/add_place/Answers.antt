@@ -1,10 +1,10 @@
 -- `estimate_correlation::add_place` meets its contract: before turn i the first i rows are done, the others are as they came. Assumes nothing.
 use mathlib.Core.Path.{◌≡◌, refl, ap, sym, ◌∙◌}
-use Prim.Native.Nat.{ℕ, ◌*◌, ◌-◌, ◌≤◌, ◌<◌}
+use Prim.Native.Nat.{ℕ, ◌*◌, ◌-◌, ◌<◌}
 use native.Mathlib.Omega.{arith}
-use lib.ListN.{length, take, drop, length-drop}
-use Rattle.estimate_correlation.specs.Code.RunningSums.{row_added, rows}
-use Rattle.estimate_correlation.proofs.RowLaws.{rows_start, rows_take, rows_drop, rows-length, rows_end}
+use lib.ListN.{length, length-drop}
+use Rattle.estimate_correlation.specs.Code.RunningSums.{row_added}
+use Rattle.estimate_correlation.proofs.RowLaws.{rows_start, rows_take, rows_drop, rows_length, rows_end}
 use Rattle.estimate_correlation.proofs.UpperLaws.{row_joined, row_added_lem, length_row}
 use borrow.Author.Rules.{rules}
 use Rattle.estimate_correlation.proofs.add_place.Goals as goal
@@ -28,7 +28,7 @@ loop-i-preserved c =
     let lf : length (f i) ≡ 20 = length_row a₀ w i lt (ap length (sym same) ∙ length-drop (20 * i) a ∙ ap (λ (z : ℕ). z - 20 * i) la) in (
       rw (row_joined a a₀ w i _ lt la same) (rows_take f i a a₀ lt la lf done same ev),
       omega arith,
-      rw (row_joined a a₀ w i _ lt la same) (rows-length f i a a₀ lt la lf done same ev),
+      rw (row_joined a a₀ w i _ lt la same) (rows_length f i a a₀ lt la lf done same ev),
       rw (row_joined a a₀ w i _ lt la same) (rows_drop f i a a₀ lt la lf done same ev),
     )
 

@@ -1,12 +1,8 @@
 -- `estimate_correlation::add_place` meets its contract: before turn i the first i rows are done, the others are as they came. Assumes nothing.
-use mathlib.Core.Path.{◌≡◌, refl, ap, sym, ◌∙◌}
-use Prim.Native.Nat.{ℕ, ◌*◌, ◌-◌, ◌≤◌, ◌<◌}
-use native.Mathlib.Omega.{arith}
-use lib.ListN.{length, take, drop, length-drop}
+use mathlib.Core.Path.{◌≡◌}
+use Prim.Native.Nat.{◌*◌, ◌-◌, ◌≤◌}
+use lib.ListN.{length, take, drop}
 use Rattle.estimate_correlation.specs.Code.RunningSums.{row_added, rows}
-use Rattle.estimate_correlation.proofs.RowLaws.{rows_start, rows_take, rows_drop, rows-length, rows_end}
-use Rattle.estimate_correlation.proofs.UpperLaws.{row_joined, row_added_lem, length_row}
-use borrow.Author.Rules.{rules}
 use Rattle.estimate_correlation.proofs.add_place.Given as goal
 
 abbrev pub invariant-loop-i : goal.invariant-loop-i

@@ -1,11 +1,8 @@
 -- `estimate_correlation::add_to_row` meets its contract: before turn j the first j numbers have their term, the others are as they came. Assumes nothing.
-use mathlib.Core.Path.{◌≡◌, refl}
-use Prim.Native.Nat.{◌*◌, ◌-◌, ◌≤◌}
+use mathlib.Core.Path.{refl}
 use native.Mathlib.Omega.{arith}
-use lib.ListN.{length, take, drop, length-set}
-use Rattle.sums.specs.Interleaved.{table}
+use lib.ListN.{length-set}
 use Rattle.sums.proofs.Tables.{table_start, table_next, table_end, at_same, drop_next}
-use Rattle.estimate_correlation.specs.Code.RunningSums.{term_added}
 use Rattle.estimate_correlation.proofs.UpperLaws.{term_added_lem}
 use borrow.Author.Rules.{rules}
 use Rattle.estimate_correlation.proofs.add_to_row.Goals as goal

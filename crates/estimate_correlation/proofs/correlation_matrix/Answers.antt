@@ -1,14 +1,9 @@
 -- `estimate_correlation::correlation_matrix` meets its contract: before turn p the first p entries stand in the table. Assumes nothing.
-use mathlib.Core.Path.{◌≡◌, ◌∙◌}
-use Prim.Native.Nat.{◌*◌, ◌-◌, ◌/◌, ◌%◌, ◌≤◌}
+use mathlib.Core.Path.{◌∙◌}
 use native.Mathlib.Omega.{arith}
-use lib.ListN.{length, take, length-set}
-use lib.IntN.{pos}
-use lib.Ieee.{binary64, of_int}
-use Rattle.sums.specs.Complex.{div_c}
-use Rattle.sums.specs.Interleaved.{table}
+use lib.ListN.{length-set}
 use Rattle.sums.proofs.Tables.{table_start, table_next, table_end}
-use Rattle.estimate_correlation.specs.Correlation.{prepared, lag_sum, correlation_matrix}
+use Rattle.estimate_correlation.specs.Correlation.{prepared, correlation_matrix}
 use Rattle.estimate_correlation.proofs.UpperLaws.{mirrored_is, quotient_is}
 use borrow.Author.Rules.{rules}
 use Rattle.estimate_correlation.proofs.correlation_matrix.Goals as goal

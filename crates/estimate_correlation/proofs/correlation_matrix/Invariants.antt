@@ -1,16 +1,12 @@
 -- `estimate_correlation::correlation_matrix` meets its contract: before turn p the first p entries stand in the table. Assumes nothing.
-use mathlib.Core.Path.{◌≡◌, ◌∙◌}
+use mathlib.Core.Path.{◌≡◌}
 use Prim.Native.Nat.{◌*◌, ◌-◌, ◌/◌, ◌%◌, ◌≤◌}
-use native.Mathlib.Omega.{arith}
-use lib.ListN.{length, take, length-set}
+use lib.ListN.{length, take}
 use lib.IntN.{pos}
 use lib.Ieee.{binary64, of_int}
 use Rattle.sums.specs.Complex.{div_c}
 use Rattle.sums.specs.Interleaved.{table}
-use Rattle.sums.proofs.Tables.{table_start, table_next, table_end}
-use Rattle.estimate_correlation.specs.Correlation.{prepared, lag_sum, correlation_matrix}
-use Rattle.estimate_correlation.proofs.UpperLaws.{mirrored_is, quotient_is}
-use borrow.Author.Rules.{rules}
+use Rattle.estimate_correlation.specs.Correlation.{prepared, lag_sum}
 use Rattle.estimate_correlation.proofs.correlation_matrix.Given as goal
 
 abbrev pub invariant-loop-p : goal.invariant-loop-p

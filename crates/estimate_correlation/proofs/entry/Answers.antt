@@ -1,7 +1,6 @@
 -- `estimate_correlation::entry` meets its contract. Assumes nothing.
 use native.Mathlib.Omega.{arith}
 use Rattle.estimate_correlation.proofs.UpperLaws.{mirrored_below, mirrored_above}
-use borrow.Author.Rules.{rules}
 use Rattle.estimate_correlation.proofs.entry.Goals as goal
 
 pub returns-then-j-i : goal.returns-then-j-i

@@ -1,6 +1,5 @@
 -- `estimate_correlation::first_window` meets its contract: before turn k the window is that after k samples. Assumes nothing.
 use mathlib.Core.Path.{◌≡◌, refl, ap, ◌∙◌}
-use Prim.Native.Nat.{◌-◌, ◌≤◌}
 use native.Mathlib.Omega.{arith}
 use Rattle.sums.specs.Interleaved.{table}
 use Rattle.estimate_correlation.specs.Correlation.{prepared}

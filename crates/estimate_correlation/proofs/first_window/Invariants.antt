@@ -1,12 +1,8 @@
 -- `estimate_correlation::first_window` meets its contract: before turn k the window is that after k samples. Assumes nothing.
-use mathlib.Core.Path.{◌≡◌, refl, ap, ◌∙◌}
+use mathlib.Core.Path.{◌≡◌}
 use Prim.Native.Nat.{◌-◌, ◌≤◌}
-use native.Mathlib.Omega.{arith}
-use Rattle.sums.specs.Interleaved.{table}
 use Rattle.estimate_correlation.specs.Correlation.{prepared}
 use Rattle.estimate_correlation.specs.Code.RunningSums.{window}
-use Rattle.estimate_correlation.proofs.WindowLaws.{window_next}
-use borrow.Author.Rules.{rules}
 use Rattle.estimate_correlation.proofs.first_window.Given as goal
 
 abbrev pub invariant-loop-k : goal.invariant-loop-k

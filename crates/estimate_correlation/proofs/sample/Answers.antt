@@ -1,7 +1,6 @@
 -- `estimate_correlation::sample` meets its contract. Assumes nothing.
 use native.Mathlib.Omega.{arith}
 use Rattle.estimate_correlation.proofs.SampleLaws.{square_at, plain_at}
-use borrow.Author.Rules.{rules}
 use Rattle.estimate_correlation.proofs.sample.Goals as goal
 
 pub returns-then-squared : goal.returns-then-squared

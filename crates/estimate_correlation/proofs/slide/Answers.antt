@@ -1,11 +1,10 @@
 -- `estimate_correlation::slide` meets its contract: before turn i the lags 0 to i stand in the table. Assumes nothing.
-use mathlib.Core.Path.{◌≡◌, refl}
-use Prim.Native.Nat.{◌+◌, ◌*◌, ◌-◌, ◌≤◌}
+use mathlib.Core.Path.{refl}
+use Prim.Native.Nat.{◌+◌}
 use native.Mathlib.Omega.{arith}
-use lib.ListN.{length, take, length-set}
+use lib.ListN.{length-set}
 use Rattle.sums.specs.Interleaved.{table}
 use Rattle.sums.proofs.Tables.{table_next, table_end}
-use Rattle.estimate_correlation.specs.Code.RunningSums.{slid}
 use Rattle.estimate_correlation.proofs.WindowLaws.{slid_later}
 use borrow.Author.Rules.{rules}
 use Rattle.estimate_correlation.proofs.slide.Goals as goal

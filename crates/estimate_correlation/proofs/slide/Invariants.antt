@@ -1,13 +1,9 @@
 -- `estimate_correlation::slide` meets its contract: before turn i the lags 0 to i stand in the table. Assumes nothing.
-use mathlib.Core.Path.{◌≡◌, refl}
+use mathlib.Core.Path.{◌≡◌}
 use Prim.Native.Nat.{◌+◌, ◌*◌, ◌-◌, ◌≤◌}
-use native.Mathlib.Omega.{arith}
-use lib.ListN.{length, take, length-set}
+use lib.ListN.{length, take}
 use Rattle.sums.specs.Interleaved.{table}
-use Rattle.sums.proofs.Tables.{table_next, table_end}
 use Rattle.estimate_correlation.specs.Code.RunningSums.{slid}
-use Rattle.estimate_correlation.proofs.WindowLaws.{slid_later}
-use borrow.Author.Rules.{rules}
 use Rattle.estimate_correlation.proofs.slide.Given as goal
 
 abbrev pub invariant-loop-i : goal.invariant-loop-i

@@ -1,6 +1,6 @@
 -- `estimate_correlation::upper_sums` meets its contract: before turn k the sums are those over k places, and nine samples more were seen. Assumes nothing.
 use mathlib.Core.Path.{◌≡◌, refl, ap, ◌∙◌}
-use Prim.Native.Nat.{◌+◌, ◌-◌, ◌≤◌}
+use Prim.Native.Nat.{◌+◌}
 use native.Mathlib.Omega.{arith}
 use lib.ListN.{length}
 use Rattle.sums.specs.Ascending.{sum_from}

@@ -1,5 +1,4 @@
 -- `estimate_dispersion::cancel` meets its contract. Assumes nothing.
-use borrow.Author.Rules.{rules}
 use Rattle.estimate_dispersion.specs.Dispersion.{dispersion_free}
 use Rattle.estimate_dispersion.proofs.cancel.Goals as goal
 

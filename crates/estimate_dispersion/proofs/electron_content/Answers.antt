@@ -1,8 +1,6 @@
 -- `estimate_dispersion::electron_content` meets its contract, by the three tests. Assumes nothing.
 use mathlib.Core.Path.{◌≡◌}
 use mathlib.Core.Bool.{true, false}
-use borrow.Author.Rules.{rules}
-use borrow.Author.Tests.{not-true, not-false}
 use lib.Ieee.{Float, binary64, sub, lt, eq, ne}
 use Rattle.ieee754.specs.Binary64.{minus, times, over, square, zero, ten_to_minus6, electron_scale}
 use Rattle.ieee754.specs.Sign.{absolute}

@@ -5,7 +5,6 @@ use native.Mathlib.Omega.{arith}
 use Rattle.estimate_correlation.specs.Correlation.{prepared, correlation_matrix}
 use Rattle.estimate_esprit.proofs.EstimateCases.{too_few, estimate_is}
 use Rattle.estimate_correlation.proofs.SampleLaws.{prepared_count}
-use borrow.Author.Rules.{rules}
 use Rattle.estimate_esprit.proofs.estimate_frequency_esprit.Goals as goal
 
 pub returns-then-n-lt10 : goal.returns-then-n-lt10

@@ -1,6 +1,5 @@
 -- `estimate_snr::estimate_snr` meets its contract. Assumes nothing.
 use Rattle.estimate_snr.proofs.EstimateCases.{no_samples_lem, some_samples}
-use Rattle.std.proofs.Common.{rules}
 use Rattle.estimate_snr.proofs.estimate_snr.Goals as goal
 
 pub returns-then-samples-eq0 : goal.returns-then-samples-eq0

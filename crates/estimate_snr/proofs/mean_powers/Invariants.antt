@@ -1,12 +1,10 @@
 -- `estimate_snr::mean_powers` meets its contract: before turn k the two sums are those of the first k samples. The measure is what is left. Assumes nothing.
-use Rattle.std.proofs.Common.{◌≡◌, ◌-◌, ◌≤◌, ap, arith, rules}
-use lib.Ieee.{Float, binary32, binary64, add, mul}
+use Rattle.std.proofs.Common.{◌≡◌, ◌-◌, ◌≤◌}
+use lib.Ieee.{binary32, binary64, add}
 use Rattle.ieee754.specs.Binary64.{square, zero}
 use Rattle.sums.specs.Ascending.{sum_from}
 use Rattle.sums.specs.Complex.{norm_sqr}
 use Rattle.sums.specs.Interleaved.{at}
-use Rattle.sums.proofs.Adding.{sum_start, sum_next}
-use Rattle.estimate_snr.proofs.EstimateCases.{mean_is}
 use Rattle.estimate_snr.proofs.mean_powers.Given as goal
 
 abbrev pub invariant-loop-k : goal.invariant-loop-k

@@ -1,7 +1,5 @@
 -- `estimate_snr::ratio_in_decibels` meets its contract. Assumes nothing.
-use borrow.Author.Tests.{not-true, not-false}
 use Rattle.estimate_snr.proofs.EstimateCases.{no_signal, no_noise, both}
-use Rattle.std.proofs.Common.{rules}
 use Rattle.estimate_snr.proofs.ratio_in_decibels.Goals as goal
 
 pub returns-then-not-ps : goal.returns-then-not-ps

@@ -1,6 +1,5 @@
 -- `estimate_snr::signal_power` meets its contract. Assumes nothing.
 use Rattle.estimate_snr.specs.MomentEstimate.{signal_power}
-use Rattle.std.proofs.Common.{rules}
 use Rattle.estimate_snr.proofs.signal_power.Goals as goal
 
 pub returns-then-v : goal.returns-then-v

@@ -1,5 +1,4 @@
 -- `pass_stream::carry` meets its contract. By the two tests of the places.
-use borrow.Author.Rules.{rules}
 use Rattle.pass_stream.proofs.CarryLaws.{wrong_order, too_far, carries}
 use Rattle.pass_stream.proofs.carry.Goals as goal
 

@@ -1,6 +1,5 @@
 -- `pass_stream::line_length` meets its contract. By the place of the first newline.
 use native.Mathlib.Omega.{arith}
-use borrow.Author.Rules.{rules}
 use Rattle.pass_reader.proofs.ByteLaws.{place_within}
 use Rattle.pass_stream.proofs.StreamLaws.{length_none, length_some}
 use Rattle.pass_stream.proofs.line_length.Goals as goal

@@ -1,9 +1,9 @@
 -- `pass_stream::move_to_front` meets its contract. Loop: the first i bytes of the part lie at the front, and what is behind them is as it was.
 use mathlib.Core.Path.{◌≡◌, refl, ◌∙◌, ap}
 use mathlib.Core.List.{◌++◌}
-use Prim.Native.Nat.{ℕ, ◌≤◌, ◌+◌, ◌-◌}
+use Prim.Native.Nat.{ℕ}
 use native.Mathlib.Omega.{arith}
-use lib.ListN.{length, take, drop, length-set}
+use lib.ListN.{take, drop, length-set}
 use Rattle.pass_stream.proofs.CarryLaws.{move_more}
 use Rattle.pass_stream.proofs.move_to_front.Goals as goal
 

@@ -1,10 +1,8 @@
 -- `pass_stream::move_to_front` meets its contract. Loop: the first i bytes of the part lie at the front, and what is behind them is as it was.
-use mathlib.Core.Path.{◌≡◌, refl, ◌∙◌, ap}
+use mathlib.Core.Path.{◌≡◌}
 use mathlib.Core.List.{◌++◌}
-use Prim.Native.Nat.{ℕ, ◌≤◌, ◌+◌, ◌-◌}
-use native.Mathlib.Omega.{arith}
-use lib.ListN.{length, take, drop, length-set}
-use Rattle.pass_stream.proofs.CarryLaws.{move_more}
+use Prim.Native.Nat.{◌≤◌, ◌+◌, ◌-◌}
+use lib.ListN.{length, take, drop}
 use Rattle.pass_stream.proofs.move_to_front.Given as goal
 
 abbrev pub invariant-loop-i : goal.invariant-loop-i

@@ -3,7 +3,7 @@ use mathlib.Core.Path.{sym}
 use native.Mathlib.Omega.{arith}
 use lib.Seq.{length-take-le}
 use Rattle.pass_session.proofs.ListLaws.{finished_within}
-use Rattle.pass_turn.proofs.TurnLaws.{long-made}
+use Rattle.pass_turn.proofs.TurnLaws.{long_made}
 use borrow.Author.Rules.{rules}
 use Rattle.pass_turn.proofs.too_long.Statement.{statement}
 use Rattle.pass_turn.proofs.too_long.Tie as tie
@@ -23,7 +23,7 @@ returns c =
     let s = c.before.before.before.before.before.before.before in
     let a = finished_within _ _ _ _ f.result _ f.ensures s.requires.1 in
     let k = f.auto.1.1.0 in
-    (omega arith, long-made _ _ _ _ f.result _ f.ensures s.requires.1 s.requires.2)
+    (omega arith, long_made _ _ _ _ f.result _ f.ensures s.requires.1 s.requires.2)
 
 pub too-long-spec : {M : Type 1} → statement M
 too-long-spec = tie.close (tie.spec slice-aggregate-finish finish-requires same_length returns)

@@ -5,8 +5,8 @@ use native.Mathlib.Omega.{arith}
 use lib.ListN.{length}
 use lib.Seq.{length-take-le}
 use borrow.Author.Tests.{leb-true, le-leb, not-true, not-false}
-use Rattle.pass_session.proofs.ListLaws.{ran-within, ran-used}
-use Rattle.pass_turn.proofs.TurnLaws.{carried_count, carried_front, turn-stops, no_line, some-used, turn-again, turn-reads, turn-refuses}
+use Rattle.pass_session.proofs.ListLaws.{ran_within, ran_used}
+use Rattle.pass_turn.proofs.TurnLaws.{carried_count, carried_front, turn_stops, no_line, some_used, turn-again, turn-reads, turn-refuses}
 use borrow.Author.Rules.{rules}
 use Rattle.pass_turn.specs.Code.Turning.{GetsOn}
 use Rattle.pass_turn.proofs.turn.Statement.{statement}
@@ -37,8 +37,8 @@ returns : tie.Need-returns
 unfolding GetsOn
 returns c =
     let r = c.before.before.before.before.before.before.before.run in
-    let l = ran-within _ _ _ _ _ r.result _ _ r.ensures (omega arith) in
-    (record { held = omega arith; list = l }, (turn-stops _ _ _ _ r.result _ _ r.ensures (sym c.before.is-stopped.ensures ∙ c.if1.true) _ _, tt))
+    let l = ran_within _ _ _ _ _ r.result _ _ r.ensures (omega arith) in
+    (record { held = omega arith; list = l }, (turn_stops _ _ _ _ r.result _ _ r.ensures (sym c.before.is-stopped.ensures ∙ c.if1.true) _ _, tt))
 
 carry-requires : tie.Need-carry-requires
 carry-requires c κs = search rules
@@ -61,8 +61,8 @@ returns-2 c =
     let s = c.before.before.before.before.before.before.before.before.before.before.before.before.before.before.before.before.before.before.before.before in
     let r = c.before.before.before.before.before.before.before.before.before.before.before.before.before.run in
     let k = c.before.before.before.before.carry in
-    let l = ran-within _ _ _ _ _ r.result _ _ r.ensures (omega arith) in
-    let u = ran-used _ _ _ _ _ r.result _ _ r.ensures (omega arith) in
+    let l = ran_within _ _ _ _ _ r.result _ _ r.ensures (omega arith) in
+    let u = ran_used _ _ _ _ _ r.result _ _ r.ensures (omega arith) in
     let q = length-take-le s.args.left s.args.buf.now s.requires.held in
     let n = carried_count _ _ _ _ _ k.ensures (omega arith) s.requires.held in
     let f = carried_front _ _ _ _ _ k.ensures (omega arith) s.requires.held in
@@ -70,7 +70,7 @@ returns-2 c =
     let m = s.requires.held in
     let z = s.requires.text in
     let full = sym c.before.has_room.ensures ∙ not-true _ c.if2.true in
-    let o = some-used _ _ _ _ r.result _ _ r.ensures (le-leb _ _ s.requires.list) full in
+    let o = some_used _ _ _ _ r.result _ _ r.ensures (le-leb _ _ s.requires.list) full in
     (record { held = omega arith; list = l }, (turn-again _ _ _ _ r.result _ _ r.ensures _ f, omega arith))
 
 too-long-requires : tie.Need-too-long-requires
@@ -78,8 +78,8 @@ too-long-requires c κs =
     let s = c.before.before.before.before.before.before.before.before.before.before.before.before.before.before.before.before.before.before.before.before.before.before.before in
     let r = c.before.before.before.before.before.before.before.before.before.before.before.before.before.before.before.before.run in
     let k = c.before.before.before.before.before.before.before.carry in
-    let l = ran-within _ _ _ _ _ r.result _ _ r.ensures (omega arith) in
-    let u = ran-used _ _ _ _ _ r.result _ _ r.ensures (omega arith) in
+    let l = ran_within _ _ _ _ _ r.result _ _ r.ensures (omega arith) in
+    let u = ran_used _ _ _ _ _ r.result _ _ r.ensures (omega arith) in
     let q = length-take-le s.args.left s.args.buf.now s.requires.held in
     let n = carried_count _ _ _ _ _ k.ensures (omega arith) s.requires.held in
     let f = carried_front _ _ _ _ _ k.ensures (omega arith) s.requires.held in
@@ -107,8 +107,8 @@ returns-3 c =
     let s = c.before.before.before.before.before.before.before.before.before.before.before.before.before.before.before.before.before.before.before.before.before.before.before.before.before.before in
     let r = c.before.before.before.before.before.before.before.before.before.before.before.before.before.before.before.before.before.before.before.run in
     let k = c.before.before.before.before.before.before.before.before.before.before.carry in
-    let l = ran-within _ _ _ _ _ r.result _ _ r.ensures (omega arith) in
-    let u = ran-used _ _ _ _ _ r.result _ _ r.ensures (omega arith) in
+    let l = ran_within _ _ _ _ _ r.result _ _ r.ensures (omega arith) in
+    let u = ran_used _ _ _ _ _ r.result _ _ r.ensures (omega arith) in
     let q = length-take-le s.args.left s.args.buf.now s.requires.held in
     let n = carried_count _ _ _ _ _ k.ensures (omega arith) s.requires.held in
     let f = carried_front _ _ _ _ _ k.ensures (omega arith) s.requires.held in
@@ -133,8 +133,8 @@ returns-4 c =
     let s = c.before.before.before.before.before.before.before.before.before.before.before.before.before.before.before.before.before.before.before.before.before in
     let r = c.before.before.before.before.before.before.before.before.before.before.before.before.before.before.run in
     let k = c.before.before.before.before.before.carry in
-    let l = ran-within _ _ _ _ _ r.result _ _ r.ensures (omega arith) in
-    let u = ran-used _ _ _ _ _ r.result _ _ r.ensures (omega arith) in
+    let l = ran_within _ _ _ _ _ r.result _ _ r.ensures (omega arith) in
+    let u = ran_used _ _ _ _ _ r.result _ _ r.ensures (omega arith) in
     let q = length-take-le s.args.left s.args.buf.now s.requires.held in
     let n = carried_count _ _ _ _ _ k.ensures (omega arith) s.requires.held in
     let f = carried_front _ _ _ _ _ k.ensures (omega arith) s.requires.held in

@@ -2,7 +2,6 @@
 use mathlib.Core.Path.{ap, ◌∙◌}
 use mathlib.Core.List.{List}
 use lib.Ieee.{Float}
-use borrow.Author.Rules.{rules}
 use Rattle.tracker_covariance.specs.Correction.{joseph_left, joseph_right, corrected}
 use Rattle.tracker_joseph.proofs.correct_second.Goals as goal
 

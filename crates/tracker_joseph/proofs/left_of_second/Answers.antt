@@ -1,10 +1,8 @@
 -- `left_of_second` is (I − K·h)·P at state 3. The invariants: the rows above r, and row r up to column c, are stored.
-use Prim.Native.Nat.{◌≤◌, ◌<◌, ◌+◌, ◌-◌, ◌*◌}
 use mathlib.Core.Path.{refl}
 use native.Mathlib.Omega.{arith}
 use borrow.Author.Rules.{rules}
-use Rattle.tracker_covariance.specs.Code.Entries.{joseph_left_at}
-use Rattle.tracker_covariance.proofs.Filling.{Rows, no_rows, store_entry, next_row, all_rows}
+use Rattle.tracker_covariance.proofs.Filling.{no_rows, store_entry, next_row, all_rows}
 use Rattle.tracker_joseph.proofs.left_of_second.Goals as goal
 
 pub loop-r-init : goal.loop-r-init

@@ -1,10 +1,7 @@
 -- `right_of_first` is T·(I − K·h)ᵀ + K·R·Kᵀ at state 0. The invariants: the rows above r, and row r up to column c, are stored.
 use Prim.Native.Nat.{◌≤◌, ◌<◌, ◌+◌, ◌-◌, ◌*◌}
-use mathlib.Core.Path.{refl}
-use native.Mathlib.Omega.{arith}
-use borrow.Author.Rules.{rules}
 use Rattle.tracker_covariance.specs.Code.Entries.{joseph_right_at}
-use Rattle.tracker_covariance.proofs.Filling.{Rows, no_rows, store_entry, next_row, all_rows}
+use Rattle.tracker_covariance.proofs.Filling.{Rows}
 use Rattle.tracker_joseph.proofs.right_of_first.Given as goal
 
 abbrev pub invariant-loop-c : goal.invariant-loop-c

@@ -1,5 +1,4 @@
 -- `move_sum` for a ring that is full and one that is not.
-use borrow.Author.Rules.{rules}
 use Rattle.tracker_power_ratio.specs.PowerRatio.{moved_sum}
 use Rattle.tracker_power_ratio.proofs.move_sum.Goals as goal
 

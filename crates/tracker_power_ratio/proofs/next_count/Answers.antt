@@ -1,6 +1,5 @@
 -- `next_count`, in either case of its test.
 use borrow.Author.Tests.{lt-ltb, le-ltb}
-use borrow.Author.Rules.{rules}
 use Rattle.tracker_power_ratio.specs.Ring.{later}
 use Rattle.tracker_power_ratio.proofs.next_count.Goals as goal
 

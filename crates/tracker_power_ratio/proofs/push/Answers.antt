@@ -5,7 +5,6 @@ use mathlib.Core.List.{List}
 use native.Mathlib.Omega.{arith}
 use lib.ListN.{length-set}
 use lib.Ieee.{Float}
-use borrow.Author.Rules.{rules}
 use Rattle.tracker_power_ratio.specs.declared.PowerSums.{PowerSums}
 use Rattle.tracker_power_ratio.specs.PowerRatio.{pushed}
 use Rattle.tracker_power_ratio.proofs.push.Goals as goal

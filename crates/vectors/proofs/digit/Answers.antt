@@ -1,6 +1,5 @@
 -- `vectors::digit` meets its contract, by its tests. Assumes nothing.
 use native.Mathlib.Omega.{arith}
-use borrow.Author.Rules.{rules}
 use borrow.Author.Tests.{le-ltb, lt-ltb, le-leb, lt-leb}
 use Rattle.vectors.specs.Code.Words.{digit_of}
 use Rattle.vectors.proofs.digit.Goals as goal

@@ -1,7 +1,5 @@
 -- `vectors::next_line` meets its contract. Assumes nothing.
-use mathlib.Core.Path.{ap, ◌∙◌, ◌≡◌}
-use mathlib.Core.Logic.{⊎_elim}
-use Prim.Native.Nat.{◌-◌, ◌≤◌}
+use mathlib.Core.Path.{ap, ◌∙◌}
 use native.Mathlib.Omega.{arith}
 use borrow.Author.Rules.{rules}
 use lib.ListN.{length, length-set}

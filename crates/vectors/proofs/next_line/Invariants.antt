@@ -1,10 +1,7 @@
 -- `vectors::next_line` meets its contract. Assumes nothing.
-use mathlib.Core.Path.{ap, ◌∙◌, ◌≡◌}
-use mathlib.Core.Logic.{⊎_elim}
+use mathlib.Core.Path.{◌≡◌}
 use Prim.Native.Nat.{◌-◌, ◌≤◌}
-use native.Mathlib.Omega.{arith}
-use borrow.Author.Rules.{rules}
-use lib.ListN.{length, length-set}
+use lib.ListN.{length}
 use Rattle.vectors.proofs.next_line.Given as goal
 
 abbrev pub invariant-loop-read : goal.invariant-loop-read

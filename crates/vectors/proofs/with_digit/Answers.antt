@@ -1,7 +1,6 @@
 -- `vectors::with_digit` meets its contract. Assumes nothing.
 use mathlib.Core.Path.{ap}
 use Prim.Native.Nat.{ℕ, ◌+◌, ◌*◌, ◌%◌, ◌^◌}
-use borrow.Author.Rules.{rules}
 use Rattle.vectors.specs.Code.Words.{with_digit}
 use Rattle.vectors.proofs.with_digit.Goals as goal
 

@@ -1,9 +1,8 @@
 -- `vectors::word_at` meets its contract: the fold of the digits that are left is the fold of all. Assumes nothing.
 use mathlib.Core.Path.{◌≡◌, refl, sym, ap, ◌∙◌}
 use mathlib.Core.List.{List}
-use Prim.Native.Nat.{ℕ, ◌+◌, ◌-◌, ◌≤◌, ◌<◌}
+use Prim.Native.Nat.{ℕ, ◌+◌, ◌≤◌, ◌<◌}
 use native.Mathlib.Omega.{arith}
-use borrow.Author.Rules.{rules}
 use lib.ListN.{length, get_or, drop}
 use Rattle.sequences.specs.Folds.{fold}
 use Rattle.sequences.specs.Stretches.{stretch}

@@ -1,10 +1,10 @@
 -- `select`, by whether a tracker is chosen.
-use Rattle.bank_selection.proofs.FadeCases.{one-chosen, none-chosen}
+use Rattle.bank_selection.proofs.FadeCases.{one_chosen, none_chosen}
 use borrow.Author.Rules.{rules}
 use Rattle.bank_selection.proofs.fade.select.Goals as goal
 
 pub returns-then-i-lt3 : goal.returns-then-i-lt3
-returns-then-i-lt3 c = one-chosen _ c.choose-i.ensures c.if-i-lt3.true
+returns-then-i-lt3 c = one_chosen _ c.choose-i.ensures c.if-i-lt3.true
 
 pub returns : goal.returns
-returns c = none-chosen _ c.choose-i.ensures c.if-i-lt3.false c.fade_on.ensures
+returns c = none_chosen _ c.choose-i.ensures c.if-i-lt3.false c.fade_on.ensures

@@ -1,12 +1,8 @@
 -- `channel_samples::limits::all_in_range` meets its contract: at each turn the mark, and what is left being in range, is the whole list's being so. Assumes nothing.
-use mathlib.Core.Path.{◌≡◌, refl, sym, ap, ◌∙◌}
+use mathlib.Core.Path.{refl, sym, ap, ◌∙◌}
 use mathlib.Core.Bool.{Bool, ◌&&◌}
-use Prim.Native.Nat.{◌-◌, ◌≤◌}
 use native.Mathlib.Omega.{arith}
-use borrow.Author.Rules.{rules}
-use lib.ListN.{length, drop}
 use lib.Ieee.{nan}
-use Rattle.sequences.specs.Folds.{every}
 use Rattle.sequences.proofs.FoldLaws.{every_marked_next, every_marked_end}
 use Rattle.channel_samples.specs.Limits.{in_range, all_in_range}
 use Rattle.channel_samples.proofs.limits.all_in_range.Goals as goal

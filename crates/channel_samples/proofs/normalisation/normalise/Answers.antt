@@ -1,12 +1,8 @@
 -- `channel_samples::normalisation::normalise` meets its contract: at each turn what is done, and what is left normalised, is the whole list normalised. Assumes nothing.
-use mathlib.Core.Path.{◌≡◌, sym, ◌∙◌}
-use mathlib.Core.List.{◌++◌}
-use Prim.Native.Nat.{◌-◌, ◌≤◌}
+use mathlib.Core.Path.{sym, ◌∙◌}
 use native.Mathlib.Omega.{arith}
-use borrow.Author.Rules.{rules}
-use lib.ListN.{length, take, drop, length-set}
+use lib.ListN.{length-set}
 use lib.Ieee.{nan}
-use Rattle.sequences.specs.Pairs.{map_pairs}
 use Rattle.sequences.proofs.PairLaws.{map_pairs_next, map_pairs_end}
 use Rattle.channel_samples.specs.Normalisation.{unit, normalised}
 use Rattle.channel_samples.proofs.normalisation.normalise.Goals as goal

@@ -1,7 +1,6 @@
 -- `channel_samples::normalisation::unit_of` meets its contract, by its test. Assumes nothing.
 use mathlib.Core.Path.{◌≡◌}
 use mathlib.Core.Bool.{true, false}
-use borrow.Author.Rules.{rules}
 use lib.Ieee.{Float, binary32, lt, div}
 use Rattle.ieee754.specs.Binary32.{zero, ten_to_minus6}
 use Rattle.ieee754.specs.Conversion.{convert}

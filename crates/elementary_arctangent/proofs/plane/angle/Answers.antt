@@ -4,7 +4,6 @@ use mathlib.Core.Bool.{Bool, true, false, not, cond}
 use lib.Dec.{T}
 use lib.Ieee.{Float, binary64, eq, div, is_nan, of_bits, inf}
 use lib.Ieee.Positive.{positive}
-use borrow.Author.Rules.{rules}
 use Rattle.ieee754.specs.Binary64.{zero, one, pi, half_pi, quarter_pi, three_quarters_pi}
 use Rattle.ieee754.specs.Sign.{absolute, plus_zero, sign_bit, signed}
 use Rattle.elementary_arctangent.specs.Steps.{regular_angle}

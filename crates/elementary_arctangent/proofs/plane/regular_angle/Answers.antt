@@ -6,7 +6,6 @@ use lib.IntN.{negsuc}
 use lib.Dec.{T}
 use lib.Ieee.{Float, binary64, div, neg, of_bits}
 use lib.Ieee.Positive.{positive}
-use borrow.Author.Rules.{rules}
 use Rattle.ieee754.specs.Sign.{absolute, sign_bit, signed}
 use Rattle.ieee754.specs.Binary64.{two_to_minus62}
 use Rattle.elementary_fixed_point.specs.Conversion.{scaled}

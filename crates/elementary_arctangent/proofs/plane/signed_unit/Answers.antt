@@ -4,7 +4,6 @@ use mathlib.Core.Bool.{Bool, true, false, not, cond}
 use Prim.Native.Nat.{ℕ, ◌+◌, ◌^◌, ◌<◌}
 use lib.Dec.{T, lit<}
 use lib.Ieee.{binary64, neg, nan_bits, of_bits}
-use borrow.Author.Rules.{rules}
 use Rattle.ieee754.specs.Sign.{sign_bit, signed}
 use Rattle.ieee754.specs.Binary64.{two_to_minus62}
 use Rattle.elementary_arctangent.proofs.plane.signed_unit.Goals as goal

@@ -1,10 +1,9 @@
 -- `plane::turned` meets its contract.
 use mathlib.Core.Path.{◌≡◌, sym, ap, ◌∙◌}
 use mathlib.Core.Bool.{Bool, true, cond}
-use Prim.Native.Nat.{ℕ, ◌-◌, ◌≤◌}
+use Prim.Native.Nat.{ℕ, ◌-◌}
 use native.Mathlib.Nat.{le_trans, le_of_eq}
 use lib.Dec.{lit≤}
-use borrow.Author.Rules.{rules}
 use Rattle.elementary_arctangent.specs.Steps.{straight_angle}
 use Rattle.elementary_arctangent.proofs.Tables.{right_angle_is, straight_angle_is}
 use Rattle.elementary_arctangent.proofs.plane.turned.Goals as goal

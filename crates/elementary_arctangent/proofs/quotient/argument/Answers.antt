@@ -5,7 +5,6 @@ use Prim.Native.Nat.{ℕ, ◌^◌, ◌≤◌}
 use native.Mathlib.Nat.{le_trans, le_of_eq}
 use lib.Dec.{T}
 use lib.Ieee.{Float, binary64, fits}
-use borrow.Author.Rules.{rules}
 use Rattle.elementary_fixed_point.specs.Ratio.{ratio}
 use Rattle.elementary_fixed_point.specs.Code.Bounds.{Proper}
 use Rattle.elementary_fixed_point.proofs.RatioBound.{ratio_upto}

@@ -1,11 +1,10 @@
 -- `quotient::first_octant` meets its contract.
 use mathlib.Core.Path.{◌≡◌, refl, sym, ap, ◌∙◌, subst}
 use mathlib.Core.Bool.{Bool, true, false, cond}
-use Prim.Native.Nat.{ℕ, ◌+◌, ◌*◌, ◌≤◌, ◌<◌}
+use Prim.Native.Nat.{ℕ, ◌+◌, ◌*◌, ◌≤◌}
 use native.Mathlib.Nat.{le_trans, le_of_eq, lt_of_le_of_lt, zero-add}
 use lib.Dec.{T, lit<}
 use lib.Ieee.{Float, binary64, fits}
-use borrow.Author.Rules.{rules}
 use Rattle.elementary_fixed_point.specs.Ratio.{ratio}
 use Rattle.elementary_fixed_point.specs.Code.Bounds.{Proper}
 use Rattle.elementary_arctangent.specs.Steps.{series, second, angle_of_half, right_angle, first_octant}

@@ -7,7 +7,6 @@ use native.Mathlib.Omega.{arith}
 use lib.Dec.{T}
 use lib.Ieee.{Float, le}
 use lib.Ieee.Positive.{positive}
-use borrow.Author.Rules.{rules}
 use Rattle.elementary_fixed_point.specs.Code.Bounds.{Proper}
 use Rattle.elementary_arctangent.specs.Steps.{right_angle, first_octant, first_quadrant}
 use Rattle.elementary_arctangent.proofs.Tables.{right_angle_is}

@@ -1,7 +1,6 @@
 -- `quotient::second_quotient` meets its contract.
 use mathlib.Core.Path.{◌≡◌, sym, ap, ◌∙◌, subst}
 use Prim.Native.Nat.{ℕ, ◌+◌, ◌-◌, ◌*◌, ◌^◌, ◌≤◌}
-use borrow.Author.Rules.{rules}
 use lib.Ieee.{Float, of_bits}
 use Rattle.ieee754.specs.Binary64.{two_to_minus61}
 use Rattle.elementary_fixed_point.specs.Conversion.{scaled}

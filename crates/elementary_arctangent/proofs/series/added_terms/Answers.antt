@@ -1,6 +1,5 @@
 -- `series::added_terms` meets its contract: the table's entries in its text, and Horner's rule written out.
 use Prim.Native.Nat.{◌/◌, ◌^◌}
-use borrow.Author.Rules.{rules}
 use Rattle.elementary_arctangent.specs.Steps.{coefficients}
 use Rattle.elementary_fixed_point.specs.Product.{tabulate}
 use Rattle.elementary_arctangent.proofs.Unrolled.{nine}

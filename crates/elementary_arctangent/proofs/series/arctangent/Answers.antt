@@ -2,7 +2,6 @@
 use mathlib.Core.Path.{◌≡◌, sym, ap, ◌∙◌}
 use Prim.Native.Nat.{ℕ, ◌-◌}
 use native.Mathlib.Nat.{le_trans, le_of_eq}
-use borrow.Author.Rules.{rules}
 use Rattle.elementary_arctangent.specs.Steps.{series}
 use Rattle.elementary_arctangent.proofs.SeriesBound.{plus_at, minus_at, minus_le, series_steps, fourth_asked}
 use Rattle.elementary_arctangent.proofs.series.arctangent.Goals.{After-high_product-n}

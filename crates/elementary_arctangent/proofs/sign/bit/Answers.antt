@@ -1,7 +1,6 @@
 -- `sign::bit` meets its contract.
 use mathlib.Core.Path.{sym, subst}
 use lib.Dec.{T}
-use borrow.Author.Rules.{rules}
 use Rattle.elementary_arctangent.proofs.SignBits.{sign_bit_lem}
 use Rattle.elementary_arctangent.proofs.sign.bit.Goals as goal
 

@@ -1,7 +1,6 @@
 -- `sign::magnitude` meets its contract.
 use mathlib.Core.Path.{sym, subst}
 use lib.Dec.{T}
-use borrow.Author.Rules.{rules}
 use Rattle.ieee754.proofs.SizeBits.{size_bits, size_no_nan}
 use Rattle.elementary_arctangent.proofs.sign.magnitude.Goals as goal
 

@@ -1,7 +1,6 @@
 -- `sign::negative` meets its contract.
 use mathlib.Core.Path.{sym, subst}
 use lib.Dec.{T}
-use borrow.Author.Rules.{rules}
 use Rattle.elementary_arctangent.proofs.SignBits.{sign_bits}
 use Rattle.elementary_arctangent.proofs.sign.negative.Goals as goal
 

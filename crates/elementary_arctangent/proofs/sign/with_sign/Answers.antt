@@ -1,7 +1,6 @@
 -- `sign::with_sign` meets its contract.
 use mathlib.Core.Path.{sym, ap}
 use mathlib.Core.Bool.{Bool}
-use borrow.Author.Rules.{rules}
 use Rattle.ieee754.specs.Sign.{signed}
 use Rattle.elementary_arctangent.proofs.sign.with_sign.Goals as goal
 

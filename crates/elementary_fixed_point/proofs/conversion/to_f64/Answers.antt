@@ -1,5 +1,5 @@
 -- `conversion::to_f64` meets its contract.
-use Rattle.std.proofs.Common.{ap, rules}
+use Rattle.std.proofs.Common.{ap}
 use lib.Ieee.{Float, binary64, mul}
 use Rattle.elementary_fixed_point.specs.Conversion.{scaled}
 use Rattle.elementary_fixed_point.proofs.conversion.to_f64.Goals as goal

@@ -1,5 +1,5 @@
 -- `product::horner_step` meets its contract.
-use Rattle.std.proofs.Common.{ℕ, ◌+◌, ◌^◌, ◌<◌, sym, ap, subst, rules}
+use Rattle.std.proofs.Common.{ℕ, ◌+◌, ◌^◌, ◌<◌, sym, ap, subst}
 use Rattle.elementary_fixed_point.proofs.Chains.{step_lt}
 use Rattle.elementary_fixed_point.proofs.product.horner_step.Goals as goal
 

@@ -2,7 +2,6 @@
 use mathlib.Core.Path.{◌≡◌, ap}
 use Prim.Native.Nat.{ℕ, ◌+◌, ◌*◌, ◌/◌, ◌^◌}
 use native.Mathlib.Nat.{lt_of_le_of_lt, le_of_eq}
-use borrow.Author.Rules.{rules}
 use Rattle.elementary_fixed_point.specs.Product.{hi}
 use Rattle.elementary_logarithm.specs.Steps.{before_one}
 use Rattle.elementary_logarithm.proofs.BeforeOneBound.{before_lt}

@@ -3,7 +3,6 @@ use mathlib.Core.Path.{◌≡◌, sym, ◌∙◌, subst}
 use mathlib.Core.Bool.{true, false}
 use Prim.Native.Nat.{ℕ}
 use lib.Dec.{T}
-use borrow.Author.Rules.{rules}
 use lib.Ieee.{Float}
 use Rattle.elementary_logarithm.specs.Steps.{near_one, far_from_one, log_of_bits}
 use Rattle.elementary_logarithm.specs.Code.Parts.{is_near_one}

@@ -1,7 +1,6 @@
 -- `elementary_logarithm::bits::near_one` meets its contract.
 use mathlib.Core.Path.{◌≡◌, ap, ◌∙◌}
 use Prim.Native.Nat.{ℕ, ◌-◌, ◌≤◌, ◌<◌}
-use borrow.Author.Rules.{rules}
 use borrow.Author.Tests.{lt-ltb, le-ltb}
 use lib.Ieee.{Float, neg}
 use Rattle.ieee754.specs.Binary64.{two_to_minus81}

@@ -4,7 +4,6 @@ use Prim.Native.Nat.{ℕ, ◌-◌, ◌*◌, ◌/◌, ◌^◌, ◌≤◌, ◌<◌
 use native.Mathlib.Nat.{le_trans, le_of_eq, lt_of_le_of_lt}
 use native.Mathlib.Omega.{arith}
 use lib.Dec.{lit<}
-use borrow.Author.Rules.{rules}
 use Rattle.elementary_fixed_point.specs.Product.{hi}
 use Rattle.elementary_fixed_point.proofs.Enclosures.{hi_le}
 use Rattle.elementary_logarithm.specs.Steps.{past_one}

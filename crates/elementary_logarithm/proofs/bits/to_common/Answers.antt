@@ -1,7 +1,6 @@
 -- `elementary_logarithm::bits::to_common` meets its contract.
 use mathlib.Core.Path.{sym, ap, ◌∙◌}
 use Prim.Native.Nat.{ℕ}
-use borrow.Author.Rules.{rules}
 use Rattle.elementary_fixed_point.specs.Product.{hi}
 use Rattle.elementary_logarithm.proofs.Constants.{reciprocal_ten_is}
 use Rattle.elementary_logarithm.proofs.bits.to_common.Goals as goal

@@ -3,7 +3,6 @@ use mathlib.Core.Path.{◌≡◌, ap}
 use Prim.Native.Nat.{ℕ, ◌+◌, ◌-◌, ◌*◌, ◌/◌, ◌^◌, ◌≤◌}
 use native.Mathlib.Nat.{le_trans, le_of_eq, lt_of_le_of_lt}
 use lib.Dec.{le→leb, lit<}
-use borrow.Author.Rules.{rules}
 use lib.Ieee.{in_float}
 use Rattle.elementary_logarithm.specs.Steps.{argument}
 use Rattle.elementary_logarithm.proofs.Argument.{u_upto, v_upto, argument_proper, argument_upto}

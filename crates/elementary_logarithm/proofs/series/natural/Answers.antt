@@ -3,7 +3,6 @@ use mathlib.Core.Path.{◌≡◌, ap, ◌∙◌}
 use Prim.Native.Nat.{ℕ, ◌/◌, ◌^◌, ◌≤◌, ◌<◌}
 use native.Mathlib.Nat.{le_trans, le_of_eq, lt_of_le_of_lt}
 use lib.Dec.{lit<}
-use borrow.Author.Rules.{rules}
 use Rattle.elementary_fixed_point.specs.Product.{hi, horner}
 use Rattle.elementary_fixed_point.proofs.Enclosures.{hi_mono}
 use Rattle.elementary_logarithm.specs.Steps.{argument, table, natural_at, natural}

@@ -3,7 +3,6 @@ use mathlib.Core.Path.{◌≡◌, refl, sym, ap, ◌∙◌}
 use mathlib.Core.List.{List, [], ◌∷◌}
 use Prim.Native.Nat.{ℕ, ◌+◌, ◌/◌, ◌^◌}
 use native.Mathlib.Nat.{add-zero, zero-mul}
-use borrow.Author.Rules.{rules}
 use Rattle.elementary_fixed_point.specs.Product.{hi, horner, tabulate}
 use Rattle.elementary_logarithm.specs.Steps.{table}
 use Rattle.elementary_logarithm.proofs.series.polynomial.Goals as goal

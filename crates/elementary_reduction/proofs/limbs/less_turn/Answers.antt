@@ -1,5 +1,4 @@
 -- `limbs::less_turn` meets its contract.
-use borrow.Author.Rules.{rules}
 use Rattle.elementary_reduction.proofs.TurnLimbs.{stays, goes}
 use Rattle.elementary_reduction.proofs.limbs.less_turn.Goals as goal
 

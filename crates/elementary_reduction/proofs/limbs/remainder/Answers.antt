@@ -3,7 +3,6 @@ use mathlib.Core.Path.{refl}
 use Prim.Native.Nat.{ℕ, ◌+◌, ◌-◌, ◌/◌, ◌≤◌}
 use native.Mathlib.Nat.{mod-lt}
 use native.Mathlib.Omega.{arith}
-use borrow.Author.Rules.{rules}
 use lib.Dec.{lit<, lit≤}
 use lib.Pow.{pow_pos}
 use Rattle.elementary_reduction.proofs.TurnLimbs.{B, T0, T1, T2, T3, quotient, taken, Back, first_back, next_back, room, top_below, carried}

@@ -1,6 +1,5 @@
 -- `limbs::upper` meets its contract.
 use mathlib.Core.Path.{sym}
-use borrow.Author.Rules.{rules}
 use Rattle.elementary_reduction.proofs.ShiftedBits.{upper_is}
 use Rattle.elementary_reduction.proofs.limbs.upper.Goals as goal
 

@@ -1,5 +1,4 @@
 -- `powers::by_20` meets its contract.
-use borrow.Author.Rules.{rules}
 use Rattle.elementary_reduction.proofs.ShiftedBits.{none, twenty}
 use Rattle.elementary_reduction.proofs.powers.by_20.Goals as goal
 

@@ -1,5 +1,4 @@
 -- `powers::by_640` meets its contract.
-use borrow.Author.Rules.{rules}
 use Rattle.elementary_reduction.proofs.ShiftedBits.{held, none, twice}
 use Rattle.elementary_reduction.proofs.powers.by_640.Goals as goal
 

@@ -1,6 +1,5 @@
 -- `conversion::to_f64` meets its contract.
 use mathlib.Core.Path.{ap}
-use borrow.Author.Rules.{rules}
 use lib.Ieee.{Float, binary64, mul}
 use Rattle.elementary_series.specs.Conversion.{scaled}
 use Rattle.elementary_series.proofs.conversion.to_f64.Goals as goal

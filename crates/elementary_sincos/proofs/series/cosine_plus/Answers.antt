@@ -1,5 +1,4 @@
 -- `series::cosine_plus` meets its contract: its table is the rule's, by one computed test.
-use borrow.Author.Rules.{rules}
 use Rattle.elementary_sincos.specs.Steps.{coefficients}
 use Rattle.elementary_fixed_point.specs.Series.{factorial}
 use Rattle.elementary_fixed_point.specs.Product.{tabulate}

@@ -2,7 +2,6 @@
 use mathlib.Core.Path.{◌≡◌, ap, ◌∙◌}
 use Prim.Native.Nat.{ℕ}
 use mathlib.Core.Bool.{Bool}
-use borrow.Author.Rules.{rules}
 use lib.Dec.{ltb}
 use lib.Ieee.{Float}
 use Rattle.ieee754_rounding.specs.Distance.{distance}

@@ -2,7 +2,6 @@
 use mathlib.Core.Path.{◌≡◌}
 use Prim.Native.Nat.{ℕ}
 use mathlib.Core.Bool.{Bool}
-use borrow.Author.Rules.{rules}
 use lib.Ieee.{Float}
 use Rattle.elementary_fixed_point.specs.Product.{hi, horner}
 use Rattle.ieee754.specs.Sign.{signed}

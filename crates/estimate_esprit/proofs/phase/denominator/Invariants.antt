@@ -1,15 +1,11 @@
 -- `estimate_esprit::phase::denominator` meets its contract: before turn i the sum has the first i terms. Assumes nothing.
 use mathlib.Core.Path.{◌≡◌}
 use Prim.Native.Nat.{◌-◌, ◌≤◌}
-use native.Mathlib.Omega.{arith}
 use lib.Ieee.{binary64, add}
 use Rattle.ieee754.specs.Binary64.{zero}
 use Rattle.sums.specs.Ascending.{sum_from}
 use Rattle.sums.specs.Complex.{norm_sqr}
 use Rattle.sums.specs.Interleaved.{at}
-use Rattle.sums.proofs.Adding.{sum_start, sum_next, sum_end}
-use Rattle.estimate_esprit.specs.Esprit.{energy}
-use borrow.Author.Rules.{rules}
 use Rattle.estimate_esprit.proofs.phase.denominator.Given as goal
 
 abbrev pub invariant-loop-i : goal.invariant-loop-i

@@ -1,7 +1,5 @@
 -- `estimate_esprit::phase::frequency_of` meets its contract. Assumes nothing.
-use borrow.Author.Tests.{not-true, not-false}
 use Rattle.estimate_esprit.proofs.EstimateCases.{no_energy, frequency_is}
-use borrow.Author.Rules.{rules}
 use Rattle.estimate_esprit.proofs.phase.frequency_of.Goals as goal
 
 pub returns-then-not-d : goal.returns-then-not-d

@@ -1,14 +1,10 @@
 -- `estimate_esprit::phase::numerator` meets its contract: before turn i the sum has the first i terms. Assumes nothing.
 use mathlib.Core.Path.{◌≡◌}
 use Prim.Native.Nat.{◌+◌, ◌-◌, ◌≤◌}
-use native.Mathlib.Omega.{arith}
 use lib.Ieee.{binary64}
 use Rattle.sums.specs.Ascending.{sum_from}
 use Rattle.sums.specs.Complex.{zero_c, add_c, mul_c, conj}
 use Rattle.sums.specs.Interleaved.{at}
-use Rattle.sums.proofs.Adding.{sum_next, sum_end}
-use Rattle.estimate_esprit.specs.Esprit.{lag_one_product}
-use borrow.Author.Rules.{rules}
 use Rattle.estimate_esprit.proofs.phase.numerator.Given as goal
 
 abbrev pub invariant-loop-i : goal.invariant-loop-i

@@ -1,10 +1,7 @@
 -- `estimate_esprit::power_iteration::all_ones` meets its contract. Assumes nothing.
-use mathlib.Core.Path.{◌≡◌, refl}
-use Prim.Native.Nat.{◌*◌, ◌-◌, ◌≤◌}
+use mathlib.Core.Path.{refl}
 use native.Mathlib.Omega.{arith}
-use lib.ListN.{length, take, length-set}
-use Rattle.ieee754.specs.Binary64.{zero, one}
-use Rattle.sums.specs.Interleaved.{table}
+use lib.ListN.{length-set}
 use Rattle.sums.proofs.Tables.{table_start, table_next, table_end}
 use Rattle.estimate_esprit.specs.Esprit.{ones}
 use borrow.Author.Rules.{rules}

@@ -1,13 +1,9 @@
 -- `estimate_esprit::power_iteration::all_ones` meets its contract. Assumes nothing.
-use mathlib.Core.Path.{◌≡◌, refl}
+use mathlib.Core.Path.{◌≡◌}
 use Prim.Native.Nat.{◌*◌, ◌-◌, ◌≤◌}
-use native.Mathlib.Omega.{arith}
-use lib.ListN.{length, take, length-set}
+use lib.ListN.{length, take}
 use Rattle.ieee754.specs.Binary64.{zero, one}
 use Rattle.sums.specs.Interleaved.{table}
-use Rattle.sums.proofs.Tables.{table_start, table_next, table_end}
-use Rattle.estimate_esprit.specs.Esprit.{ones}
-use borrow.Author.Rules.{rules}
 use Rattle.estimate_esprit.proofs.power_iteration.all_ones.Given as goal
 
 abbrev pub invariant-loop-i : goal.invariant-loop-i

@@ -1,11 +1,7 @@
 -- `estimate_esprit::power_iteration::divided` meets its contract: before turn i the first i quotients stand in the table. Assumes nothing.
-use mathlib.Core.Path.{◌≡◌, refl}
-use Prim.Native.Nat.{◌*◌, ◌-◌, ◌≤◌}
+use mathlib.Core.Path.{refl}
 use native.Mathlib.Omega.{arith}
-use lib.ListN.{length, take, length-set}
-use lib.Ieee.{binary64}
-use Rattle.sums.specs.Complex.{div_c}
-use Rattle.sums.specs.Interleaved.{at, table}
+use lib.ListN.{length-set}
 use Rattle.sums.proofs.Tables.{table_start, table_next, table_end}
 use Rattle.estimate_esprit.specs.Esprit.{divided_by}
 use borrow.Author.Rules.{rules}

@@ -1,14 +1,10 @@
 -- `estimate_esprit::power_iteration::divided` meets its contract: before turn i the first i quotients stand in the table. Assumes nothing.
-use mathlib.Core.Path.{◌≡◌, refl}
+use mathlib.Core.Path.{◌≡◌}
 use Prim.Native.Nat.{◌*◌, ◌-◌, ◌≤◌}
-use native.Mathlib.Omega.{arith}
-use lib.ListN.{length, take, length-set}
+use lib.ListN.{length, take}
 use lib.Ieee.{binary64}
 use Rattle.sums.specs.Complex.{div_c}
 use Rattle.sums.specs.Interleaved.{at, table}
-use Rattle.sums.proofs.Tables.{table_start, table_next, table_end}
-use Rattle.estimate_esprit.specs.Esprit.{divided_by}
-use borrow.Author.Rules.{rules}
 use Rattle.estimate_esprit.proofs.power_iteration.divided.Given as goal
 
 abbrev pub invariant-loop-i : goal.invariant-loop-i

@@ -1,13 +1,9 @@
 -- `estimate_esprit::power_iteration::matrix_times` meets its contract: before turn i the first i rows stand in the table. Assumes nothing.
 use mathlib.Core.Path.{◌≡◌}
 use Prim.Native.Nat.{◌*◌, ◌-◌, ◌≤◌}
-use native.Mathlib.Omega.{arith}
-use lib.ListN.{length, take, length-set}
+use lib.ListN.{length, take}
 use Rattle.sums.specs.Interleaved.{table}
-use Rattle.sums.proofs.Tables.{table_start, table_next, table_end}
-use Rattle.estimate_esprit.specs.Esprit.{matrix_times}
 use Rattle.estimate_esprit.specs.Code.Rows.{row_times}
-use borrow.Author.Rules.{rules}
 use Rattle.estimate_esprit.proofs.power_iteration.matrix_times.Given as goal
 
 abbrev pub invariant-loop-i : goal.invariant-loop-i

@@ -1,12 +1,9 @@
 -- `estimate_esprit::power_iteration::norm_of` meets its contract: before turn i the sum has the terms 0 to i. Assumes nothing.
-use mathlib.Core.Path.{◌≡◌, ap, ◌∙◌}
-use Prim.Native.Nat.{◌-◌, ◌≤◌}
+use mathlib.Core.Path.{ap, ◌∙◌}
 use native.Mathlib.Omega.{arith}
 use lib.Ieee.{binary64, add}
 use Rattle.ieee754.specs.SquareRoot.{sqrt}
-use Rattle.sums.specs.Ascending.{sum_from, sum_to}
-use Rattle.sums.specs.Complex.{norm_sqr}
-use Rattle.sums.specs.Interleaved.{at}
+use Rattle.sums.specs.Ascending.{sum_from}
 use Rattle.sums.proofs.Adding.{sum_next, sum_end}
 use Rattle.estimate_esprit.specs.Esprit.{norm}
 use borrow.Author.Rules.{rules}

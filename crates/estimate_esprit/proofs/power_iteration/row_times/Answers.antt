@@ -1,10 +1,8 @@
 -- `estimate_esprit::power_iteration::row_times` meets its contract: before turn j the sum has the terms 0 to j. Assumes nothing.
-use mathlib.Core.Path.{◌≡◌}
-use Prim.Native.Nat.{◌+◌, ◌*◌, ◌-◌, ◌≤◌}
 use native.Mathlib.Omega.{arith}
 use lib.Ieee.{binary64}
-use Rattle.sums.specs.Ascending.{sum_from, sum_to}
-use Rattle.sums.specs.Complex.{add_c, mul_c}
+use Rattle.sums.specs.Ascending.{sum_from}
+use Rattle.sums.specs.Complex.{add_c}
 use Rattle.sums.specs.Interleaved.{at}
 use Rattle.sums.proofs.Adding.{sum_next, sum_end}
 use Rattle.estimate_esprit.proofs.EstimateCases.{first_term}

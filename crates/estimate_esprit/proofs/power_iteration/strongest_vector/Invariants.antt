@@ -1,10 +1,6 @@
 -- `estimate_esprit::power_iteration::strongest_vector` meets its contract: the steps still to go, from the vector reached, end where all of them do. Assumes nothing.
-use mathlib.Core.Path.{◌≡◌, ◌∙◌}
-use native.Mathlib.Omega.{arith}
-use borrow.Author.Tests.{not-true, not-false}
+use mathlib.Core.Path.{◌≡◌}
 use Rattle.estimate_esprit.specs.Esprit.{power_iteration, ones}
-use Rattle.estimate_esprit.proofs.EstimateCases.{power_stops, power_goes, power_ends}
-use borrow.Author.Rules.{rules}
 use Rattle.estimate_esprit.proofs.power_iteration.strongest_vector.Given as goal
 
 abbrev pub invariant-loop-k : goal.invariant-loop-k

@@ -1,5 +1,5 @@
 -- `ieee754::conversion::f32_to_f64` meets its contract. Assumes nothing.
-use Rattle.std.proofs.Common.{ℕ, true, false, not, T, sym, ap, ◌∙◌, subst, le_of_lt, add_comm, zero-add, rules}
+use Rattle.std.proofs.Common.{ℕ, true, false, not, T, sym, ap, ◌∙◌, subst, le_of_lt, add_comm, zero-add}
 use lib.Ieee.{binary32, binary64, fits, of_bits, is_nan, nan_bits}
 use lib.Ieee.Fits.{and_i, fits_widens}
 use lib.Ieee.Compare.{differs_from_itself}

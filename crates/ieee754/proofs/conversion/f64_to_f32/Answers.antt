@@ -1,6 +1,6 @@
 -- `ieee754::conversion::f64_to_f32` meets its contract. Assumes nothing.
-use Rattle.std.proofs.Common.{◌≡◌, ℕ, ◌+◌, ◌-◌, ◌*◌, ◌/◌, ◌%◌, ◌^◌, ◌<◌, ◌≤◌, true, false, cond, not, T, sym, refl, ap, ◌∙◌, subst, add_comm, zero-add, arith, lit<, lit≤, rules}
-use lib.Ieee.{nan, binary32, binary64, fits, of_bits, div, nan_bits}
+use Rattle.std.proofs.Common.{ℕ, true, false, not, T, sym, ap, ◌∙◌, subst, add_comm, zero-add}
+use lib.Ieee.{binary32, binary64, fits, of_bits, nan_bits}
 use lib.Ieee.Compare.{differs_from_itself}
 use Rattle.ieee754.specs.Conversion.{convert}
 use Rattle.ieee754.proofs.Fields.{zero_by_zero, no_nan, no_nan_plain, equals_itself, by_plus, by_minus, at_most_infinity}

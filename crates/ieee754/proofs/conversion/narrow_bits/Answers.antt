@@ -1,5 +1,5 @@
 -- `ieee754::conversion::narrow_bits` meets its contract. Assumes nothing.
-use Rattle.std.proofs.Common.{◌≡◌, ℕ, ◌+◌, ◌-◌, ◌*◌, ◌/◌, ◌%◌, ◌^◌, ◌<◌, ◌≤◌, cond, sym, refl, ap, ◌∙◌, subst, arith, lit≤, rules}
+use Rattle.std.proofs.Common.{ℕ, ◌+◌, ◌-◌, ◌*◌, ◌/◌, ◌%◌, ◌^◌, ◌<◌, ◌≤◌, cond, sym, ap, ◌∙◌, subst, arith, lit≤}
 use lib.Ieee.{binary32, of_bits}
 use Rattle.ieee754.proofs.ConversionCases.{narrow_large, narrow_tiny, narrow_normal, narrow_subnormal, small_pattern}
 use Rattle.ieee754.proofs.conversion.narrow_bits.Goals.{After-rounded_quotient-2}

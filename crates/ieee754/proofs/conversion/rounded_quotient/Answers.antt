@@ -1,5 +1,5 @@
 -- `ieee754::conversion::rounded_quotient` meets its contract.
-use Rattle.std.proofs.Common.{◌≡◌, ℕ, ◌+◌, ◌*◌, ◌/◌, ◌%◌, ◌^◌, ◌<◌, ◌≤◌, Bool, true, false, cond, not, T, ltb, sym, refl, ap, ◌∙◌, subst, le_trans, le_of_eq, add-zero, arith, ltb→lt, nltb→le, rules}
+use Rattle.std.proofs.Common.{◌≡◌, ℕ, ◌+◌, ◌*◌, ◌/◌, ◌%◌, ◌^◌, ◌<◌, ◌≤◌, Bool, true, false, cond, not, T, ltb, sym, refl, ap, ◌∙◌, subst, le_trans, le_of_eq, add-zero, arith, ltb→lt, nltb→le}
 use Rattle.ieee754.specs.Code.Quotients.{nearest_quotient, rounding_carry}
 use Rattle.ieee754.proofs.ConversionCases.{unit_pos, rounded_lt, rounded_gt, rounded_eq, quotient_le}
 use Rattle.ieee754.proofs.conversion.rounded_quotient.Goals as goal

@@ -1,5 +1,4 @@
 -- `ieee754::conversion::u64_to_f64` meets its contract. Assumes nothing.
-use Rattle.std.proofs.Common.{rules}
 use Rattle.ieee754.proofs.conversion.u64_to_f64.Goals as goal
 
 pub returns : goal.returns

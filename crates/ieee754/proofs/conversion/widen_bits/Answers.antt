@@ -1,5 +1,5 @@
 -- `ieee754::conversion::widen_bits` meets its contract. Assumes nothing.
-use Rattle.std.proofs.Common.{◌≡◌, ℕ, ◌<◌, ◌≤◌, Bool, sym, subst, lt_of_lt_of_le, arith, lit≤, rules}
+use Rattle.std.proofs.Common.{◌≡◌, ℕ, ◌<◌, ◌≤◌, Bool, sym, subst, lt_of_lt_of_le, arith, lit≤}
 use lib.Arith.{lt_of_le-ne}
 use lib.Count.{count_leading_zeros}
 use lib.Ieee.{binary32, binary64, of_bits}

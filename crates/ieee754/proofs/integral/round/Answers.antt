@@ -1,6 +1,6 @@
 -- `ieee754::integral::round` meets its contract. Assumes nothing.
-use Rattle.std.proofs.Common.{◌≡◌, ℕ, ◌+◌, ◌-◌, ◌*◌, ◌/◌, ◌%◌, ◌^◌, ◌<◌, ◌≤◌, Bool, true, false, cond, not, T, sym, refl, ap, ◌∙◌, subst, arith, rules}
-use lib.Ieee.{Float, nan, binary64, fits, is_nan, lt, le, eq, of_bits, rem, add}
+use Rattle.std.proofs.Common.{◌≡◌, true, false, T, sym, ap, ◌∙◌, subst}
+use lib.Ieee.{Float, binary64, fits}
 use lib.Ieee.Compare.{differs_from_itself}
 use Rattle.ieee754.specs.Integral.{rounded_away}
 use Rattle.ieee754.proofs.Fields.{equals_itself, by_plus, by_minus}

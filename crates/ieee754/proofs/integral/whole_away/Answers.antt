@@ -1,6 +1,6 @@
 -- `ieee754::integral::whole_away` meets its contract. Assumes nothing.
-use Rattle.std.proofs.Common.{◌≡◌, ℕ, ◌+◌, ◌-◌, ◌*◌, ◌/◌, ◌%◌, ◌^◌, ◌<◌, ◌≤◌, Bool, true, false, cond, not, T, sym, refl, ap, ◌∙◌, subst, arith, rules}
-use lib.Ieee.{Float, nan, binary64, fits, is_nan, lt, le, eq, of_bits, rem, add}
+use Rattle.std.proofs.Common.{◌+◌, ◌-◌, ◌*◌, ◌/◌, ◌%◌, ◌^◌, ◌<◌, ◌≤◌, arith}
+use lib.Ieee.{binary64}
 use Rattle.ieee754.proofs.RoundAwayCases.{away_small, half_small, away_shifted, away_le}
 use Rattle.ieee754.proofs.integral.whole_away.Goals as goal
 

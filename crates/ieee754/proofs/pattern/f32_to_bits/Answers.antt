@@ -1,6 +1,6 @@
 -- `ieee754::pattern::f32_to_bits` meets its contract. Assumes nothing.
-use Rattle.std.proofs.Common.{◌≡◌, ℕ, T, sym, refl, ap, ◌∙◌, subst}
-use lib.Ieee.{nan, binary32, to_bits}
+use Rattle.std.proofs.Common.{T, sym, refl, ap, ◌∙◌, subst}
+use lib.Ieee.{binary32, to_bits}
 use lib.Ieee.Compare.{differs_from_itself}
 use Rattle.ieee754.proofs.Fields.{equals_itself, bits_of_nan}
 use Rattle.ieee754.proofs.pattern.f32_to_bits.Goals as goal

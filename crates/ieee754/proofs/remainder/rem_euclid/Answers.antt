@@ -1,6 +1,6 @@
 -- `ieee754::remainder::rem_euclid` meets its contract. Assumes nothing.
-use Rattle.std.proofs.Common.{◌≡◌, ℕ, ◌+◌, ◌-◌, ◌*◌, ◌/◌, ◌%◌, ◌^◌, ◌<◌, ◌≤◌, Bool, true, false, cond, not, T, sym, refl, ap, ◌∙◌, subst, arith, rules}
-use lib.Ieee.{Float, nan, binary64, fits, is_nan, lt, le, eq, of_bits, rem, add}
+use Rattle.std.proofs.Common.{Bool, cond, sym, ap, ◌∙◌}
+use lib.Ieee.{Float, binary64, rem, add}
 use Rattle.ieee754.specs.Sign.{absolute}
 use Rattle.ieee754.specs.Remainder.{rem_euclid}
 use Rattle.ieee754.proofs.SignCases.{zero_is}

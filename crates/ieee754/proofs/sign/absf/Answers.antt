@@ -1,5 +1,5 @@
 -- `ieee754::sign::absf` meets its contract. Assumes nothing.
-use Rattle.std.proofs.Common.{◌≡◌, T, sym, ◌∙◌, subst}
+use Rattle.std.proofs.Common.{T, sym, ◌∙◌, subst}
 use lib.Ieee.{binary32, fits}
 use Rattle.ieee754.proofs.SignCases.{zero_is, abs_negative, abs_zero, abs_positive}
 use Rattle.ieee754.proofs.sign.absf.Goals.{Start}

@@ -1,5 +1,5 @@
 -- `ieee754_roots::hypotenuse::hypotf` meets its contract: a NaN leg makes a NaN, and otherwise it is what the root ensures. Assumes nothing.
-use Rattle.std.proofs.Common.{◌≡◌, true, not, ◌&&◌, ◌||◌, T, sym, refl, ap, ◌∙◌, subst, inl, inr, rules}
+use Rattle.std.proofs.Common.{◌≡◌, true, not, ◌&&◌, ◌||◌, T, sym, refl, ap, ◌∙◌, subst, inl, inr}
 use lib.Ieee.{Float, nan, inf, fin, binary32, binary64, add, mul, ne, is_nan, fits}
 use lib.Ieee.Fits.{and_i, fits_widens}
 use lib.Ieee.Bits.{is_false}

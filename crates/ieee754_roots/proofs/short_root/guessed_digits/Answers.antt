@@ -1,5 +1,5 @@
 -- `ieee754_roots::short_root::guessed_digits` is safe, and its result is in range. Assumes nothing.
-use Rattle.std.proofs.Common.{ℕ, ◌-◌, ◌/◌, ◌≤◌, arith, rules}
+use Rattle.std.proofs.Common.{ℕ, ◌-◌, ◌/◌, ◌≤◌, arith}
 use lib.Ieee.{binary64}
 use Rattle.ieee754.proofs.Fields.{no_nan_plain, le_no_nan}
 use Rattle.ieee754_roots.proofs.short_root.guessed_digits.Goals as goal

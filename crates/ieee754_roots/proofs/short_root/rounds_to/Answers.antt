@@ -1,5 +1,5 @@
 -- `ieee754_roots::short_root::rounds_to` meets its contract: the two tests keep every nearest root between the halfway marks. Assumes nothing.
-use Rattle.std.proofs.Common.{◌+◌, ◌-◌, ◌*◌, ◌≤◌, arith, rules}
+use Rattle.std.proofs.Common.{◌+◌, ◌-◌, ◌*◌, ◌≤◌, arith}
 use Rattle.ieee754_roots.proofs.RootDigits.{half_square_lem}
 use Rattle.ieee754_roots.proofs.ShortRootCases.{settled, apart}
 use Rattle.ieee754_roots.proofs.short_root.rounds_to.Goals.{Start}

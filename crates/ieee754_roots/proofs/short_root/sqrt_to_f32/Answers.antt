@@ -1,5 +1,5 @@
 -- `ieee754_roots::short_root::sqrt_to_f32` meets its contract. Assumes nothing.
-use Rattle.std.proofs.Common.{ℕ, ◌+◌, ◌-◌, ◌*◌, ◌/◌, ◌^◌, ◌<◌, ◌≤◌, T, sym, ap, ◌∙◌, subst, arith, rules}
+use Rattle.std.proofs.Common.{ℕ, ◌+◌, ◌-◌, ◌*◌, ◌/◌, ◌^◌, ◌<◌, ◌≤◌, T, sym, ap, ◌∙◌, subst, arith}
 use lib.Ieee.{binary32, binary64, fits, to_bits}
 use Rattle.ieee754.specs.Conversion.{convert}
 use Rattle.ieee754.proofs.Fields.{no_nan_plain, le_no_nan}

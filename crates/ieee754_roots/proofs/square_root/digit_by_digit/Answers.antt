@@ -1,5 +1,5 @@
 -- `ieee754_roots::square_root::digit_by_digit` meets its contract: the invariant is that p is the whole root, with the rest, of the digits of m * 2 ^ 54 so far. Assumes nothing.
-use Rattle.std.proofs.Common.{◌≡◌, ℕ, zero, suc, ◌+◌, ◌-◌, ◌*◌, ◌/◌, ◌%◌, ◌^◌, ◌<◌, ◌≤◌, sym, refl, ap, ◌∙◌, subst, mul-one, div-one, arith, rules}
+use Rattle.std.proofs.Common.{◌≡◌, ℕ, ◌+◌, ◌-◌, ◌*◌, ◌/◌, ◌^◌, ◌<◌, ◌≤◌, sym, refl, ap, ◌∙◌, mul-one, div-one, arith}
 use lib.Bits.{bit_and}
 use Rattle.ieee754_roots.proofs.RootDigits.{more_digits, digit_small, q_small, more_zeros, q_small_2, half_near}
 use Rattle.ieee754_roots.proofs.square_root.digit_by_digit.Goals.{In-loop-s}

@@ -1,5 +1,5 @@
 -- `ieee754_roots::square_root::excess` meets its contract. Assumes nothing.
-use Rattle.std.proofs.Common.{◌≡◌, ℕ, ◌+◌, ◌-◌, ◌*◌, ◌/◌, ◌%◌, ◌^◌, ◌<◌, ◌≤◌, arith, rules}
+use Rattle.std.proofs.Common.{◌≡◌, ℕ, ◌+◌, ◌-◌, ◌*◌, ◌/◌, ◌%◌, ◌≤◌, arith}
 use Rattle.ieee754_roots.proofs.RootDigits.{excess_is, half_square_lem, cross_fits}
 use Rattle.ieee754_roots.proofs.square_root.excess.Goals as goal
 

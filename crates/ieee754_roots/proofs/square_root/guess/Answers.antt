@@ -1,5 +1,5 @@
 -- `ieee754_roots::square_root::guess` is safe.
-use Rattle.std.proofs.Common.{ℕ, ◌-◌, ◌/◌, ◌≤◌, arith, rules}
+use Rattle.std.proofs.Common.{ℕ, ◌-◌, ◌/◌, ◌≤◌, arith}
 use lib.Ieee.{binary64}
 use Rattle.ieee754.proofs.Fields.{no_nan_plain, le_no_nan}
 use Rattle.ieee754_roots.proofs.square_root.guess.Goals as goal

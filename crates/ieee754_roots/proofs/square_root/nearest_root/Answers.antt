@@ -1,5 +1,5 @@
 -- `ieee754_roots::square_root::nearest_root` meets its contract. Assumes nothing.
-use Rattle.std.proofs.Common.{ℕ, ◌+◌, ◌*◌, ◌^◌, ◌<◌, ◌≤◌, arith, rules}
+use Rattle.std.proofs.Common.{ℕ, ◌+◌, ◌*◌, ◌^◌, ◌<◌, ◌≤◌, arith}
 use Rattle.ieee754_roots.proofs.RootDigits.{one_fits, two_fit, counted}
 use Rattle.ieee754_roots.proofs.square_root.nearest_root.Goals as goal
 

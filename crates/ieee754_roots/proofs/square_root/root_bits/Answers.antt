@@ -1,5 +1,5 @@
 -- `ieee754_roots::square_root::root_bits` meets its contract. Assumes nothing.
-use Rattle.std.proofs.Common.{ℕ, ◌+◌, ◌*◌, ◌/◌, ◌%◌, ◌^◌, ◌<◌, ◌≤◌, arith, rules}
+use Rattle.std.proofs.Common.{◌+◌, ◌*◌, ◌%◌, ◌^◌, ◌<◌, ◌≤◌, arith}
 use Rattle.ieee754.proofs.SquareRootCases.{doubled, root_pattern, pattern_lt}
 use Rattle.ieee754_roots.proofs.square_root.root_bits.Goals.{Start}
 use Rattle.ieee754_roots.proofs.square_root.root_bits.Goals as goal

@@ -1,5 +1,5 @@
 -- `ieee754_roots::square_root::sqrt` meets its contract, by the ranges of the pattern. Assumes nothing.
-use Rattle.std.proofs.Common.{◌≡◌, ℕ, ◌<◌, ◌≤◌, T, sym, ◌∙◌, subst, le_of_lt, arith, rules}
+use Rattle.std.proofs.Common.{◌≡◌, ℕ, ◌<◌, ◌≤◌, T, sym, ◌∙◌, subst, le_of_lt, arith}
 use lib.Ieee.{Float, binary64, fits, to_bits}
 use lib.Ieee.Compare.{differs_from_itself}
 use lib.Arith.{lt_of_le-ne}

@@ -2,8 +2,6 @@
 use mathlib.Core.Path.{◌≡◌, sym, ◌∙◌}
 use mathlib.Core.Bool.{true, false}
 use native.Mathlib.Omega.{arith}
-use borrow.Author.Tests.{not-true, not-false}
-use borrow.Author.Rules.{rules}
 use Rattle.pass_reader.specs.Bytes.{whole_line, line_fields}
 use Rattle.pass_reader.specs.Lines.{two_fields, flag_and_samples}
 use Rattle.pass_reader.specs.Code.Answers.{read_into}

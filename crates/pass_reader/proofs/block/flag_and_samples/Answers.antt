@@ -1,7 +1,6 @@
 -- `pass_reader::block::flag_and_samples` meets its contract. By the place of the first space: the flag stands before it, and the samples after it.
 use mathlib.Core.Path.{sym, ◌∙◌, ap}
 use native.Mathlib.Omega.{arith}
-use borrow.Author.Rules.{rules}
 use Rattle.pass_reader.specs.Code.Answers.{value_in}
 use Rattle.pass_reader.proofs.ByteLaws.{front_length, place_within}
 use Rattle.pass_reader.proofs.BlockLaws.{one_field_said, no_flag_said, two_fields_said}

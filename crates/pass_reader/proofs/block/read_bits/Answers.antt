@@ -2,16 +2,13 @@
 use mathlib.Core.Path.{◌≡◌, refl, sym, ◌∙◌, ap}
 use mathlib.Core.Bool.{true, false}
 use mathlib.Core.Option.{some, none}
-use mathlib.Core.List.{◌++◌}
-use Prim.Native.Nat.{ℕ, ◌≤◌, ◌+◌, ◌-◌, ◌*◌, ◌/◌}
+use Prim.Native.Nat.{ℕ, ◌*◌}
 use native.Mathlib.Omega.{arith}
-use lib.ListN.{length, take, drop, length-set, length-drop}
+use lib.ListN.{take, drop, length-set, length-drop}
 use lib.Seq.{length-take-le}
-use borrow.Author.Rules.{rules}
 use Rattle.sequences.specs.Folds.{every}
 use Rattle.sequences.proofs.FoldLaws.{every_end}
 use Rattle.pass_reader.specs.Numbers.{is_digit, number_of}
-use Rattle.pass_reader.specs.Lines.{bits_of}
 use Rattle.pass_reader.specs.Code.Answers.{value_in}
 use Rattle.pass_reader.proofs.NumberLaws.{number_below}
 use Rattle.pass_reader.proofs.BlockLaws.{whole_groups, few_groups, group_stops, group_goes_on, bits_more, bits_start, bits_end}

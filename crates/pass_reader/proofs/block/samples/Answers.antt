@@ -4,7 +4,6 @@ use Prim.Native.Nat.{◌/◌}
 use native.Mathlib.Omega.{arith}
 use lib.ListN.{length}
 use lib.Seq.{length-take-le}
-use borrow.Author.Tests.{not-true, not-false}
 use borrow.Author.Rules.{rules}
 use Rattle.pass_reader.proofs.ByteLaws.{front_length}
 use Rattle.pass_reader.proofs.BlockLaws.{dash_said, unpaired_said, undigit_said, samples_said, few_groups}

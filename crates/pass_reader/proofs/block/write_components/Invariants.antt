@@ -1,12 +1,9 @@
 -- `pass_reader::block::write_components` meets its contract. Loop: the first i components lie over the front of the buffer.
-use mathlib.Core.Path.{◌≡◌, refl, ◌∙◌, ap}
-use mathlib.Core.List.{List, ◌++◌, map}
+use mathlib.Core.Path.{◌≡◌}
+use mathlib.Core.List.{◌++◌, map}
 use Prim.Native.Nat.{◌≤◌, ◌-◌}
-use native.Mathlib.Omega.{arith}
-use lib.ListN.{length, take, drop, set, length-set}
-use lib.Ieee.{Float, binary32, of_bits}
-use borrow.Author.Rules.{rules}
-use Rattle.pass_reader.proofs.BlockLaws.{laid_more, laid_done}
+use lib.ListN.{length, take, drop}
+use lib.Ieee.{binary32, of_bits}
 use Rattle.pass_reader.proofs.block.write_components.Given as goal
 
 abbrev pub invariant-loop-i : goal.invariant-loop-i

@@ -1,6 +1,5 @@
 -- `pass_reader::line::block_names_line` meets its contract. By the test.
 use mathlib.Core.Path.{sym, ◌∙◌}
-use borrow.Author.Rules.{rules}
 use Rattle.pass_reader.specs.Code.Answers.{refusal_unless}
 use Rattle.pass_reader.proofs.line.block_names_line.Goals as goal
 

@@ -1,5 +1,4 @@
 -- `pass_reader::line::is_same` meets its contract. Equality both ways is the test.
-use borrow.Author.Rules.{rules}
 use Rattle.pass_reader.proofs.ByteLaws.{same_is}
 use Rattle.pass_reader.proofs.line.is_same.Goals as goal
 

@@ -2,7 +2,6 @@
 use mathlib.Core.Path.{◌≡◌, refl}
 use Prim.Native.Nat.{ℕ}
 use native.Mathlib.Omega.{arith}
-use borrow.Author.Rules.{rules}
 use Rattle.pass_reader.specs.Bytes.{whole_line}
 use Rattle.pass_reader.proofs.ByteLaws.{unended_nil}
 use Rattle.pass_reader.proofs.line.is_whole.Goals as goal

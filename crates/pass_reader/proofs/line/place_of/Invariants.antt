@@ -1,11 +1,8 @@
 -- `pass_reader::line::place_of` meets its contract. Loop: the bytes passed are none of those looked for, so the place of the first is i and what is left of it.
 use mathlib.Core.Path.{◌≡◌}
 use Prim.Native.Nat.{◌≤◌, ◌+◌, ◌-◌}
-use native.Mathlib.Omega.{arith}
 use lib.ListN.{length, drop}
-use borrow.Author.Rules.{rules}
 use Rattle.pass_reader.specs.Code.Places.{place}
-use Rattle.pass_reader.proofs.ByteLaws.{place_here, place_next, place_end}
 use Rattle.pass_reader.proofs.line.place_of.Given as goal
 
 abbrev pub invariant-loop-i : goal.invariant-loop-i

@@ -1,8 +1,6 @@
 -- `pass_reader::number::decimal` meets its contract. A field of another shape is no number; the rest is `digits`.
 use mathlib.Core.Path.{sym, ◌∙◌}
 use native.Mathlib.Omega.{arith}
-use borrow.Author.Tests.{not-true, not-false}
-use borrow.Author.Rules.{rules}
 use Rattle.pass_reader.proofs.NumberLaws.{shape_short, unshaped, shaped}
 use Rattle.pass_reader.proofs.number.decimal.Goals as goal
 

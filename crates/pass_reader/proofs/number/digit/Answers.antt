@@ -1,7 +1,6 @@
 -- `pass_reader::number::digit` meets its contract. A byte falls into one of five stretches; each has its law.
 use mathlib.Core.Path.{◌∙◌}
 use native.Mathlib.Omega.{arith}
-use borrow.Author.Rules.{rules}
 use Rattle.pass_reader.proofs.NumberLaws.{below_digits, decimal_digit, between_digits, letter_digit, above_digits}
 use Rattle.pass_reader.proofs.number.digit.Goals as goal
 

@@ -1,12 +1,10 @@
 -- `pass_reader::number::digits` meets its contract. Loop: the digits read so far make v, which stays below 16 to the power of their count; what is left of the test and of the number is that of the whole.
 use mathlib.Core.Path.{◌≡◌, ◌∙◌, ap}
-use Prim.Native.Nat.{ℕ, ◌≤◌, ◌<◌, ◌+◌, ◌-◌, ◌*◌, ◌^◌}
+use Prim.Native.Nat.{ℕ, ◌+◌, ◌*◌}
 use native.Mathlib.Omega.{arith}
-use lib.ListN.{length, drop, get_or}
-use borrow.Author.Rules.{rules}
-use Rattle.sequences.specs.Folds.{fold, every}
+use lib.ListN.{get_or}
 use Rattle.sequences.proofs.FoldLaws.{fold_next}
-use Rattle.pass_reader.specs.Numbers.{digit_value, is_digit, digit_behind}
+use Rattle.pass_reader.specs.Numbers.{digit_value, digit_behind}
 use Rattle.pass_reader.proofs.NumberLaws.{grown, short, number_stops, number_ends, digit_goes_on}
 use Rattle.pass_reader.proofs.number.digits.Goals as goal
 

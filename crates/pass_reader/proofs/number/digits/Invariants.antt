@@ -1,13 +1,9 @@
 -- `pass_reader::number::digits` meets its contract. Loop: the digits read so far make v, which stays below 16 to the power of their count; what is left of the test and of the number is that of the whole.
-use mathlib.Core.Path.{◌≡◌, ◌∙◌, ap}
-use Prim.Native.Nat.{ℕ, ◌≤◌, ◌<◌, ◌+◌, ◌-◌, ◌*◌, ◌^◌}
-use native.Mathlib.Omega.{arith}
-use lib.ListN.{length, drop, get_or}
-use borrow.Author.Rules.{rules}
+use mathlib.Core.Path.{◌≡◌}
+use Prim.Native.Nat.{◌≤◌, ◌<◌, ◌-◌, ◌^◌}
+use lib.ListN.{length, drop}
 use Rattle.sequences.specs.Folds.{fold, every}
-use Rattle.sequences.proofs.FoldLaws.{fold_next}
-use Rattle.pass_reader.specs.Numbers.{digit_value, is_digit, digit_behind}
-use Rattle.pass_reader.proofs.NumberLaws.{grown, short, number_stops, number_ends, digit_goes_on}
+use Rattle.pass_reader.specs.Numbers.{is_digit, digit_behind}
 use Rattle.pass_reader.proofs.number.digits.Given as goal
 
 abbrev pub invariant-loop-i : goal.invariant-loop-i

@@ -1,6 +1,5 @@
 -- `pass_reader::number::has_decimal_shape` meets its contract. One test after the other.
 use borrow.Author.Tests.{le-leb, lt-leb, eq-eqb, ne_eqb}
-use borrow.Author.Rules.{rules}
 use Rattle.pass_reader.specs.Numbers.{decimal_shape}
 use Rattle.pass_reader.proofs.number.has_decimal_shape.Goals as goal
 

@@ -3,8 +3,6 @@ use mathlib.Core.Path.{◌≡◌, sym, ◌∙◌}
 use mathlib.Core.Option.{bind}
 use mathlib.Core.Bool.{true, false}
 use native.Mathlib.Omega.{arith}
-use borrow.Author.Tests.{not-true, not-false}
-use borrow.Author.Rules.{rules}
 use Rattle.pass_reader.specs.Bytes.{whole_line, line_fields}
 use Rattle.pass_reader.specs.Lines.{decimals, nine_values, values_line}
 use Rattle.pass_reader.proofs.ByteLaws.{front_length}

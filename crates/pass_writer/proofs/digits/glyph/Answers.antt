@@ -1,5 +1,4 @@
 -- `pass_writer::digits::glyph` meets its contract. A decimal digit or a letter.
-use borrow.Author.Rules.{rules}
 use Rattle.pass_writer.proofs.DigitLaws.{decimal_glyph, letter_glyph}
 use Rattle.pass_writer.proofs.digits.glyph.Goals as goal
 

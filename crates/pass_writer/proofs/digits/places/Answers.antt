@@ -1,6 +1,6 @@
 -- `pass_writer::digits::places` meets its contract. Loop: the digits counted so far, and those of the number that is left.
 use native.Mathlib.Omega.{arith}
-use Rattle.pass_writer.proofs.DigitLaws.{Counting, counting_starts, counting_goes_on, counting_ends}
+use Rattle.pass_writer.proofs.DigitLaws.{counting_starts, counting_goes_on, counting_ends}
 use Rattle.pass_writer.proofs.digits.places.Goals as goal
 
 pub loop-left-init : goal.loop-left-init

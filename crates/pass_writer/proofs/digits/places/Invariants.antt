@@ -1,6 +1,5 @@
 -- `pass_writer::digits::places` meets its contract. Loop: the digits counted so far, and those of the number that is left.
-use native.Mathlib.Omega.{arith}
-use Rattle.pass_writer.proofs.DigitLaws.{Counting, counting_starts, counting_goes_on, counting_ends}
+use Rattle.pass_writer.proofs.DigitLaws.{Counting}
 use Rattle.pass_writer.proofs.digits.places.Given as goal
 
 abbrev pub invariant-loop-left : goal.invariant-loop-left

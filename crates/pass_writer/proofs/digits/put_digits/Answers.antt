@@ -1,12 +1,8 @@
 -- `pass_writer::digits::put_digits` meets its contract. Loop: the i digits that are left, laid over what is there, make the whole text. The last digit is written first.
-use mathlib.Core.Path.{◌≡◌, refl, ◌∙◌}
-use Prim.Native.Nat.{◌≤◌, ◌<◌, ◌+◌, ◌-◌}
+use mathlib.Core.Path.{refl, ◌∙◌}
 use native.Mathlib.Omega.{arith}
 use native.Mathlib.Nat.{mod-lt}
-use lib.ListN.{length, length-set}
-use borrow.Author.Rules.{rules}
-use Rattle.pass_writer.specs.Digits.{digits}
-use Rattle.pass_writer.specs.Code.Buffers.{laid}
+use lib.ListN.{length-set}
 use Rattle.pass_writer.proofs.LaidLaws.{digit_more, digits_done}
 use Rattle.pass_writer.proofs.digits.put_digits.Goals as goal
 

@@ -2,7 +2,6 @@
 use mathlib.Core.Path.{◌≡◌, ◌∙◌, ap}
 use Prim.Native.Nat.{ℕ}
 use native.Mathlib.Omega.{arith}
-use borrow.Author.Rules.{rules}
 use Rattle.pass_writer.specs.Digits.{digits, float_text}
 use Rattle.pass_writer.specs.Code.Buffers.{laid}
 use Rattle.pass_writer.proofs.DigitLaws.{length_float}

@@ -1,7 +1,6 @@
 -- `pass_writer::digits::put_number` meets its contract. The digits, and the byte after them.
 use mathlib.Core.Path.{sym, ◌∙◌}
 use native.Mathlib.Omega.{arith}
-use borrow.Author.Rules.{rules}
 use Rattle.pass_writer.specs.Digits.{decimal_text}
 use Rattle.pass_writer.proofs.DigitLaws.{decimal_digits}
 use Rattle.pass_writer.proofs.LaidLaws.{put_after}

@@ -1,7 +1,6 @@
 -- `pass_writer::lines::block_line` meets its contract. By the room that is left.
 use mathlib.Core.Path.{sym, ◌∙◌}
-use borrow.Author.Tests.{not-true, not-false, leb-true}
-use borrow.Author.Rules.{rules}
+use borrow.Author.Tests.{leb-true}
 use Rattle.pass_writer.proofs.LaidLaws.{line_written, no_room}
 use Rattle.pass_writer.proofs.lines.block_line.Goals as goal
 

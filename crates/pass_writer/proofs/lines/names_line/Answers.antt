@@ -3,8 +3,7 @@ use mathlib.Core.Path.{sym, ◌∙◌}
 use Prim.Native.Nat.{◌+◌, ◌≤◌}
 use native.Mathlib.Omega.{arith}
 use lib.ListN.{length}
-use borrow.Author.Tests.{not-true, not-false, leb-true}
-use borrow.Author.Rules.{rules}
+use borrow.Author.Tests.{leb-true}
 use Rattle.pass_writer.proofs.LaidLaws.{line_written, no_room}
 use Rattle.pass_writer.proofs.lines.names_line.Goals as goal
 

@@ -4,7 +4,6 @@ use mathlib.Core.Path.{ap}
 use mathlib.Core.List.{◌++◌, ◌∷◌, []}
 use Prim.Native.Nat.{ℕ}
 use native.Mathlib.Omega.{arith}
-use borrow.Author.Rules.{rules}
 use Rattle.pass_writer.specs.Digits.{decimal_text, float_text}
 use Rattle.pass_writer.specs.Lines.{block_text}
 use Rattle.pass_writer.proofs.LaidLaws.{then_wrote, wrote_as, joined_seven}

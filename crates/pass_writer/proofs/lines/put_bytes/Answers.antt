@@ -1,6 +1,6 @@
 -- `pass_writer::lines::put_bytes` meets its contract. Loop: the first i bytes are laid.
 use mathlib.Core.Path.{◌≡◌, refl, ◌∙◌, ap}
-use Prim.Native.Nat.{◌≤◌, ◌+◌, ◌-◌}
+use Prim.Native.Nat.{◌+◌}
 use native.Mathlib.Omega.{arith}
 use native.Mathlib.Numerals.{add-one}
 use lib.ListN.{length, set, get_or, length-set}

@@ -1,11 +1,8 @@
 -- `pass_writer::lines::put_bytes` meets its contract. Loop: the first i bytes are laid.
-use mathlib.Core.Path.{◌≡◌, refl, ◌∙◌, ap}
+use mathlib.Core.Path.{◌≡◌}
 use Prim.Native.Nat.{◌≤◌, ◌+◌, ◌-◌}
-use native.Mathlib.Omega.{arith}
-use native.Mathlib.Numerals.{add-one}
-use lib.ListN.{length, set, get_or, length-set}
-use lib.Seq.{paste, paste-zero, paste-suc}
-use Rattle.pass_writer.proofs.LaidLaws.{laid_paste}
+use lib.ListN.{length}
+use lib.Seq.{paste}
 use Rattle.pass_writer.proofs.lines.put_bytes.Given as goal
 
 abbrev pub invariant-loop-i : goal.invariant-loop-i

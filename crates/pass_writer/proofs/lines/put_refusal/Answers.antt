@@ -1,7 +1,6 @@
 -- `pass_writer::lines::put_refusal` meets its contract. Three fields, one behind the other.
 use mathlib.Core.List.{◌++◌, ◌∷◌, []}
 use native.Mathlib.Omega.{arith}
-use borrow.Author.Rules.{rules}
 use Rattle.pass_reader.specs.Bytes.{bytes}
 use Rattle.pass_writer.specs.Digits.{decimal_text}
 use Rattle.pass_writer.specs.Lines.{refusal_text}

@@ -2,7 +2,6 @@
 use mathlib.Core.Path.{ap}
 use mathlib.Core.List.{List}
 use lib.Ieee.{Float}
-use borrow.Author.Rules.{rules}
 use Rattle.tracker_power_ratio.specs.declared.PowerSums.{PowerSums}
 use Rattle.tracker.specs.State.{with_power}
 use Rattle.tracker.proofs.correction.enter.Goals as goal

@@ -1,6 +1,5 @@
 -- `has_nan`: only a NaN differs from itself.
 use mathlib.Core.Bool.{◌||◌}
-use borrow.Author.Rules.{rules}
 use Rattle.tracker_covariance.specs.Matrix.{el}
 use Rattle.tracker.proofs.NanTest.{differs}
 use Rattle.tracker.specs.Correction.{any_nan}

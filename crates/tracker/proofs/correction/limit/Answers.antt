@@ -1,6 +1,5 @@
 -- `limit`: the two states after the phase are among the six; the limits are the products that the definition names.
 use native.Mathlib.Omega.{arith}
-use borrow.Author.Rules.{rules}
 use Rattle.tracker_covariance.proofs.Phases.{phase_small}
 use Rattle.tracker.proofs.CorrectionSteps.{limited_is}
 use Rattle.tracker.proofs.correction.limit.Goals as goal

@@ -1,7 +1,6 @@
 -- `prior_of` reads the channel's phase, which is one of the six states.
 use mathlib.Core.Path.{ap}
 use native.Mathlib.Omega.{arith}
-use borrow.Author.Rules.{rules}
 use Rattle.tracker_covariance.proofs.Phases.{phase_small}
 use Rattle.tracker.specs.Correction.{prior_of}
 use Rattle.tracker.proofs.correction.prior_of.Goals as goal

@@ -1,6 +1,5 @@
 -- `wrap_phase` writes the wrapped phase to its own place, which is one of the six.
 use native.Mathlib.Omega.{arith}
-use borrow.Author.Rules.{rules}
 use Rattle.tracker_covariance.proofs.Phases.{phase_small}
 use Rattle.tracker.proofs.CorrectionSteps.{phase_is}
 use Rattle.tracker.proofs.correction.wrap_phase.Goals as goal

@@ -1,5 +1,4 @@
 -- `apply_first`, with a gain and without.
-use borrow.Author.Rules.{rules}
 use Rattle.tracker.proofs.CorrectionSteps.{with_gain, without_gain}
 use Rattle.tracker.proofs.first.apply_first.Goals as goal
 

@@ -1,5 +1,4 @@
 -- `correct_by_first`, from what its steps ensure.
-use borrow.Author.Rules.{rules}
 use Rattle.tracker_covariance.specs.declared.states.Band.TheVariants.{First}
 use Rattle.tracker.proofs.CorrectionSteps.{band_is}
 use Rattle.tracker.proofs.first.correct_by_first.Goals as goal

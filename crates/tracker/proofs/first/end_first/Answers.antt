@@ -1,5 +1,4 @@
 -- `end_first`, lost and kept.
-use borrow.Author.Rules.{rules}
 use Rattle.tracker.proofs.CorrectionSteps.{corrected_lost, corrected_kept}
 use Rattle.tracker.proofs.first.end_first.Goals as goal
 

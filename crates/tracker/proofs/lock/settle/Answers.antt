@@ -1,5 +1,4 @@
 -- `settle`, above guard 0 and at it.
-use borrow.Author.Rules.{rules}
 use Rattle.tracker.proofs.LockSteps.{guarded, unlocked, unchanged}
 use Rattle.tracker.proofs.lock.settle.Goals as goal
 

@@ -1,5 +1,4 @@
 -- `noise_scale`, adaptive or not.
-use borrow.Author.Rules.{rules}
 use Rattle.tracker.specs.Prediction.{noise_scale}
 use Rattle.tracker.proofs.prediction.noise_scale.Goals as goal
 

@@ -1,6 +1,5 @@
 -- `process_noise`, operation by operation.
 use Rattle.ieee754.specs.Binary64.{times}
-use borrow.Author.Rules.{rules}
 use Rattle.tracker.specs.Prediction.{process_noise}
 use Rattle.tracker.proofs.prediction.process_noise.Goals as goal
 

@@ -1,5 +1,4 @@
 -- `apply_second`, with a gain and without.
-use borrow.Author.Rules.{rules}
 use Rattle.tracker.proofs.SecondSteps.{moved_gain, moved_not}
 use Rattle.tracker.proofs.second.apply_second.Goals as goal
 

@@ -1,7 +1,5 @@
 -- `correct_by_second`, from what the sample says.
 use mathlib.Core.Path.{ap, ◌∙◌}
-use lib.Ieee.{Float}
-use borrow.Author.Rules.{rules}
 use Rattle.tracker.specs.declared.correction.Correction.TheVariants.{Kept}
 use Rattle.tracker.specs.declared.second.Innovation.{Innovation}
 use Rattle.tracker.specs.State.{with_envelope}

@@ -1,5 +1,4 @@
 -- `innovation_of`, from what its parts ensure.
-use borrow.Author.Rules.{rules}
 use Rattle.tracker_measurement.specs.Measurement.{measured}
 use Rattle.tracker.proofs.second.innovation_of.Goals as goal
 

@@ -1,5 +1,4 @@
 -- `update_by_second`, lost and kept.
-use borrow.Author.Rules.{rules}
 use Rattle.tracker.proofs.SecondSteps.{after_lost, after_kept, second_is}
 use Rattle.tracker.proofs.second.update_by_second.Goals as goal
 

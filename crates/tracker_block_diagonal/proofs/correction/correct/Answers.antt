@@ -13,7 +13,6 @@ use Rattle.tracker_block_diagonal.proofs.Finite.{both_true}
 use Rattle.tracker_block_diagonal.proofs.Zeros.{absolute_above}
 use Rattle.tracker_block_diagonal.proofs.Blocks.{blocks, alike}
 use Rattle.tracker_block_diagonal.proofs.CorrectedHalves.{Fits, floored_fits, all_finite, gain_taken, gain_apart, corrected_blocks}
-use borrow.Author.Rules.{rules}
 use Rattle.tracker_block_diagonal.proofs.correction.correct.Goals.{Start}
 use Rattle.tracker_block_diagonal.proofs.correction.correct.Goals as goal
 

@@ -1,5 +1,4 @@
 -- `floor_half` raises each variance of a half.
-use borrow.Author.Rules.{rules}
 use Rattle.tracker_block_diagonal.proofs.correction.floor_half.Goals as goal
 
 pub returns : goal.returns

@@ -4,7 +4,6 @@ use lib.Dec.{T}
 use lib.Ieee.{binary64, of_bits}
 use lib.Ieee.Bits.{of_bits-to_bits}
 use borrow.Author.Tests.{eqb-true}
-use borrow.Author.Rules.{rules}
 use Rattle.tracker_block_diagonal.proofs.joining.is_plus_zero.Goals as goal
 
 pub returns : goal.returns

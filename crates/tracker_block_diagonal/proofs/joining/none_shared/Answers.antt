@@ -1,6 +1,5 @@
 -- `none_shared` looks at each of the three.
 use Rattle.tracker_block_diagonal.proofs.Finite.{both_true}
-use borrow.Author.Rules.{rules}
 use Rattle.tracker_block_diagonal.proofs.joining.none_shared.Goals as goal
 
 pub returns : goal.returns

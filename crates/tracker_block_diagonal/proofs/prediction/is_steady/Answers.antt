@@ -1,7 +1,6 @@
 -- `is_steady` looks at half the interval's square, which is finite only where the interval is, and at the ratio.
 use mathlib.Core.Path.{sym, ◌∙◌}
 use lib.Ieee.{binary64}
-use borrow.Author.Rules.{rules}
 use Rattle.ieee754.specs.Binary64.{times, half}
 use Rattle.tracker_block_diagonal.proofs.Finite.{both_true, second_factor}
 use Rattle.tracker_block_diagonal.proofs.prediction.is_steady.Goals as goal

@@ -5,7 +5,6 @@ use Rattle.tracker_block_diagonal.specs.Code.HalfPrediction.{moved_rows, moved_c
 use Rattle.tracker_block_diagonal.specs.Code.Joined.{joined}
 use Rattle.tracker_block_diagonal.proofs.Blocks.{blocks, alike}
 use Rattle.tracker_block_diagonal.proofs.PredictedHalves.{predicted_blocks}
-use borrow.Author.Rules.{rules}
 use Rattle.tracker_block_diagonal.proofs.prediction.predict.Goals as goal
 
 pub returns : goal.returns

@@ -1,8 +1,7 @@
 -- `floor_diagonal` raises the six variances. The loop's invariant: those of the states below i are raised, and nothing else has changed.
-use Prim.Native.Nat.{◌≤◌, ◌-◌}
 use native.Mathlib.Omega.{arith}
 use borrow.Author.Rules.{rules}
-use Rattle.tracker_covariance.proofs.Floor.{Raised, none, raise, done}
+use Rattle.tracker_covariance.proofs.Floor.{none, raise, done}
 use Rattle.tracker_covariance.proofs.correction.floor_diagonal.Goals as goal
 
 pub loop-i-init : goal.loop-i-init

@@ -1,8 +1,6 @@
 -- `floor_diagonal` raises the six variances. The loop's invariant: those of the states below i are raised, and nothing else has changed.
 use Prim.Native.Nat.{◌≤◌, ◌-◌}
-use native.Mathlib.Omega.{arith}
-use borrow.Author.Rules.{rules}
-use Rattle.tracker_covariance.proofs.Floor.{Raised, none, raise, done}
+use Rattle.tracker_covariance.proofs.Floor.{Raised}
 use Rattle.tracker_covariance.proofs.correction.floor_diagonal.Given as goal
 
 abbrev pub invariant-loop-i : goal.invariant-loop-i

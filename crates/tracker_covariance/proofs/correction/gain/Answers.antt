@@ -1,13 +1,11 @@
 -- `gain` is the column of P over s. The loop's invariant: the first r numbers of K are stored.
-use Prim.Native.Nat.{ℕ, ◌≤◌, ◌-◌}
+use Prim.Native.Nat.{ℕ}
 use mathlib.Core.Path.{refl, ap, ◌∙◌}
 use native.Mathlib.Omega.{arith}
 use borrow.Author.Rules.{rules}
 use Rattle.tracker_covariance.proofs.Phases.{phase_small}
 use Rattle.tracker_covariance.specs.Correction.{gain_of}
-use Rattle.tracker_covariance.proofs.Filling.{Filled, none, store, full}
-use Rattle.ieee754.specs.Binary64.{over}
-use Rattle.tracker_covariance.specs.Matrix.{at}
+use Rattle.tracker_covariance.proofs.Filling.{none, store, full}
 use Rattle.tracker_covariance.proofs.correction.gain.Goals as goal
 
 pub loop-r-init : goal.loop-r-init

@@ -1,11 +1,6 @@
 -- `gain` is the column of P over s. The loop's invariant: the first r numbers of K are stored.
-use Prim.Native.Nat.{ℕ, ◌≤◌, ◌-◌}
-use mathlib.Core.Path.{refl, ap, ◌∙◌}
-use native.Mathlib.Omega.{arith}
-use borrow.Author.Rules.{rules}
-use Rattle.tracker_covariance.proofs.Phases.{phase_small}
-use Rattle.tracker_covariance.specs.Correction.{gain_of}
-use Rattle.tracker_covariance.proofs.Filling.{Filled, none, store, full}
+use Prim.Native.Nat.{◌≤◌, ◌-◌}
+use Rattle.tracker_covariance.proofs.Filling.{Filled}
 use Rattle.ieee754.specs.Binary64.{over}
 use Rattle.tracker_covariance.specs.Matrix.{at}
 use Rattle.tracker_covariance.proofs.correction.gain.Given as goal

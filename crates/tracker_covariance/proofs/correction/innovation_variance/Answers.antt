@@ -2,7 +2,6 @@
 use Prim.Native.Nat.{ℕ}
 use mathlib.Core.Path.{ap}
 use native.Mathlib.Omega.{arith}
-use borrow.Author.Rules.{rules}
 use Rattle.tracker_covariance.proofs.Phases.{phase_small}
 use Rattle.tracker_covariance.specs.Correction.{innovation_variance}
 use Rattle.tracker_covariance.proofs.correction.innovation_variance.Goals as goal

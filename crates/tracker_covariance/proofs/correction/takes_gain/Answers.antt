@@ -1,8 +1,5 @@
 -- `takes_gain`, from the absolute value.
-use borrow.Author.Rules.{rules}
 use Rattle.tracker_covariance.specs.Correction.{takes_gain}
-use Rattle.tracker_covariance.proofs.correction.takes_gain.Statement.{statement}
-use Rattle.tracker_covariance.proofs.correction.takes_gain.Tie as tie
 use mathlib.Core.Path.{ap}
 use lib.Ieee.{Float, binary64, le, of_bits}
 use Rattle.tracker_covariance.proofs.correction.takes_gain.Goals as goal

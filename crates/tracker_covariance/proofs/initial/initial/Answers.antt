@@ -1,6 +1,5 @@
 -- `initial` has the variances on its diagonal and 0 elsewhere.
 use mathlib.Core.Path.{refl}
-use borrow.Author.Rules.{rules}
 use Rattle.tracker_covariance.specs.Initial.{initial_covariance}
 use Rattle.tracker_covariance.proofs.initial.initial.Goals as goal
 

@@ -1,6 +1,5 @@
 -- `noise_matrix` is Q, in either case of the test on the ratio.
 use mathlib.Core.Path.{sym, ◌∙◌}
-use borrow.Author.Rules.{rules}
 use Rattle.tracker_covariance.specs.ProcessNoise.{noise_matrix}
 use Rattle.sequences.proofs.Choices.{cond_yes, cond_no}
 use Rattle.tracker_covariance.proofs.prediction.noise_matrix.Goals as goal

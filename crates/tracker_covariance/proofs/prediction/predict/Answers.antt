@@ -2,7 +2,6 @@
 use mathlib.Core.Path.{ap, ◌∙◌}
 use mathlib.Core.List.{List}
 use lib.Ieee.{Float}
-use borrow.Author.Rules.{rules}
 use Rattle.tracker_covariance.specs.Transition.{by_f}
 use Rattle.tracker_covariance.specs.Prediction.{sum_of, mean_of, predicted}
 use Rattle.tracker_covariance.specs.Code.Transposed.{transposed}

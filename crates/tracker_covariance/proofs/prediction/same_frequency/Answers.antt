@@ -1,7 +1,6 @@
 -- `same_frequency` tests the ratio's distance from 1.
 use mathlib.Core.Path.{ap}
 use lib.Ieee.{Float, lt, of_bits, binary64}
-use borrow.Author.Rules.{rules}
 use Rattle.tracker_covariance.proofs.prediction.same_frequency.Goals as goal
 
 pub returns : goal.returns

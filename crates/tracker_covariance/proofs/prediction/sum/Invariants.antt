@@ -1,11 +1,7 @@
 -- `sum` adds the 36 entries. The loop's invariant: those before place k are stored.
 use Prim.Native.Nat.{◌≤◌, ◌-◌}
-use mathlib.Core.Path.{refl, sym}
-use native.Mathlib.Omega.{arith}
-use borrow.Author.Rules.{rules}
-use Rattle.ieee754.specs.Binary64.{plus}
 use Rattle.tracker_covariance.specs.Code.Entries.{sum_at}
-use Rattle.tracker_covariance.proofs.Filling.{Filled, place, none, store, at_place, all_places}
+use Rattle.tracker_covariance.proofs.Filling.{Filled, place}
 use Rattle.tracker_covariance.proofs.prediction.sum.Given as goal
 
 abbrev pub invariant-loop-k : goal.invariant-loop-k

@@ -1,10 +1,9 @@
 -- `transition_transposed` is (F-as-P)ᵀ. The loop's invariant: the rows above r are stored.
-use Prim.Native.Nat.{◌≤◌, ◌+◌, ◌-◌, ◌*◌}
 use mathlib.Core.Path.{refl}
 use native.Mathlib.Omega.{arith}
 use borrow.Author.Rules.{rules}
-use Rattle.tracker_covariance.proofs.Filling.{Rows, no_rows, all_rows}
-use Rattle.tracker_covariance.proofs.Transition.{step_at, turn}
+use Rattle.tracker_covariance.proofs.Filling.{no_rows, all_rows}
+use Rattle.tracker_covariance.proofs.Transition.{turn}
 use Rattle.tracker_covariance.proofs.prediction.transition_transposed.Goals as goal
 
 pub loop-r-init : goal.loop-r-init

@@ -1,10 +1,7 @@
 -- `transition_transposed` is (F-as-P)ᵀ. The loop's invariant: the rows above r are stored.
 use Prim.Native.Nat.{◌≤◌, ◌+◌, ◌-◌, ◌*◌}
-use mathlib.Core.Path.{refl}
-use native.Mathlib.Omega.{arith}
-use borrow.Author.Rules.{rules}
-use Rattle.tracker_covariance.proofs.Filling.{Rows, no_rows, all_rows}
-use Rattle.tracker_covariance.proofs.Transition.{step_at, turn}
+use Rattle.tracker_covariance.proofs.Filling.{Rows}
+use Rattle.tracker_covariance.proofs.Transition.{step_at}
 use Rattle.tracker_covariance.proofs.prediction.transition_transposed.Given as goal
 
 abbrev pub invariant-loop-r : goal.invariant-loop-r

@@ -1,6 +1,5 @@
 -- `correct_state` is x + K·z.
 use mathlib.Core.Path.{refl}
-use borrow.Author.Rules.{rules}
 use Rattle.tracker_covariance.specs.Correction.{corrected_state}
 use Rattle.tracker_covariance.proofs.states.correct_state.Goals as goal
 

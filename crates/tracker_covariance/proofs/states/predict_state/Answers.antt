@@ -1,6 +1,5 @@
 -- `predict_state` is F·x, row by row.
 use mathlib.Core.Path.{refl}
-use borrow.Author.Rules.{rules}
 use Rattle.tracker_covariance.specs.Transition.{predicted_state}
 use Rattle.tracker_covariance.proofs.states.predict_state.Goals as goal
 

@@ -1,5 +1,5 @@
 -- `fourth_angle` is a quarter of the fourth power's angle.
-use Rattle.std.proofs.Common.{ap, ◌∙◌, rules}
+use Rattle.std.proofs.Common.{ap, ◌∙◌}
 use lib.Ieee.{Float, binary64, mul}
 use Rattle.ieee754.specs.Binary64.{quarter}
 use Rattle.tracker_measurement.specs.Angle.{angle_of}

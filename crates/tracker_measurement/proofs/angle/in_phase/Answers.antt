@@ -1,5 +1,4 @@
 -- `in_phase`, modulation by modulation.
-use Rattle.std.proofs.Common.{rules}
 use Rattle.tracker_measurement.proofs.angle.in_phase.Goals as goal
 
 pub returns-in-Carrier : goal.returns-in-Carrier

@@ -1,5 +1,4 @@
 -- `phase_error`, modulation by modulation.
-use Rattle.std.proofs.Common.{rules}
 use Rattle.tracker_measurement.proofs.angle.phase_error.Goals as goal
 
 pub returns-in-Carrier : goal.returns-in-Carrier

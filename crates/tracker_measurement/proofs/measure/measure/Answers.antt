@@ -1,5 +1,4 @@
 -- `measure`, from what its parts ensure.
-use Rattle.std.proofs.Common.{rules}
 use Rattle.tracker_measurement.specs.Measurement.{measured}
 use Rattle.tracker_measurement.proofs.measure.measure.Goals as goal
 

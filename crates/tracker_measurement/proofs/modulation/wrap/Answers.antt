@@ -1,5 +1,4 @@
 -- `wrap` by the range of the modulation: the quick way within it, and the remainder elsewhere, where plus half can be reached.
-use Rattle.std.proofs.Common.{rules}
 use Rattle.tracker_measurement.proofs.WrapSteps.{quick, at_half, below_half}
 use Rattle.tracker_measurement.proofs.modulation.wrap.Goals as goal
 

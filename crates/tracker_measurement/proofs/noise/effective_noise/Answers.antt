@@ -1,5 +1,4 @@
 -- `effective_noise`, from what its parts ensure.
-use Rattle.std.proofs.Common.{rules}
 use Rattle.tracker_measurement.specs.Noise.{effective_noise}
 use Rattle.tracker_measurement.proofs.noise.effective_noise.Goals as goal
 

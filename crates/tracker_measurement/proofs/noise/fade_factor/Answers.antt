@@ -1,5 +1,4 @@
 -- `fade_factor`, from what its parts ensure.
-use Rattle.std.proofs.Common.{rules}
 use Rattle.tracker_measurement.specs.Noise.{fade_factor}
 use Rattle.tracker_measurement.proofs.noise.fade_factor.Goals as goal
 

@@ -1,5 +1,4 @@
 -- `snr_factor`, from what the two clamps ensure.
-use Rattle.std.proofs.Common.{rules}
 use Rattle.tracker_measurement.specs.Noise.{snr_factor}
 use Rattle.tracker_measurement.proofs.noise.snr_factor.Goals as goal
 

@@ -1,5 +1,4 @@
 -- `along_diagonals`, from the two absolute values.
-use Rattle.std.proofs.Common.{rules}
 use Rattle.tracker_measurement.specs.Sample.{diagonals}
 use Rattle.tracker_measurement.proofs.sample.along_diagonals.Goals as goal
 

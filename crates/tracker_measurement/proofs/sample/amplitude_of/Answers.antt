@@ -1,5 +1,4 @@
 -- `amplitude_of` is the hypotenuse.
-use Rattle.std.proofs.Common.{rules}
 use Rattle.tracker_measurement.specs.Sample.{amplitude}
 use Rattle.tracker_measurement.proofs.sample.amplitude_of.Goals as goal
 

@@ -1,5 +1,4 @@
 -- `derotate`, from what the sine and the cosine ensure.
-use Rattle.std.proofs.Common.{rules}
 use Rattle.tracker_measurement.specs.Sample.{derotated}
 use Rattle.tracker_measurement.proofs.sample.derotate.Goals as goal
 

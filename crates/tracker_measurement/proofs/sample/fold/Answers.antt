@@ -1,5 +1,4 @@
 -- `fold`, modulation by modulation.
-use Rattle.std.proofs.Common.{rules}
 use Rattle.tracker_measurement.proofs.sample.fold.Goals as goal
 
 pub returns-in-Qpsk : goal.returns-in-Qpsk

@@ -1,5 +1,4 @@
 -- `used_sample`, modulation by modulation.
-use Rattle.std.proofs.Common.{rules}
 use Rattle.tracker_measurement.proofs.sample.used_sample.Goals as goal
 
 pub returns-in-Carrier : goal.returns-in-Carrier

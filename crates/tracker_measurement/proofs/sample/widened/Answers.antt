@@ -1,5 +1,4 @@
 -- `widened` changes no value.
-use Rattle.std.proofs.Common.{rules}
 use Rattle.tracker_measurement.proofs.sample.widened.Goals as goal
 
 pub returns : goal.returns

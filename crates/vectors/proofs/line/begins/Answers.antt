@@ -1,9 +1,6 @@
 -- `vectors::line::begins` meets its contract. Assumes nothing.
-use mathlib.Core.Path.{◌≡◌, refl, sym, ◌∙◌}
-use Prim.Native.Nat.{◌-◌, ◌≤◌}
+use mathlib.Core.Path.{refl, sym, ◌∙◌}
 use native.Mathlib.Omega.{arith}
-use lib.ListN.{length, drop}
-use Rattle.vectors.specs.Code.Standing.{standing}
 use Rattle.vectors.proofs.LineLaws.{standing_next, standing_differs, standing_missing, standing_end}
 use Rattle.vectors.proofs.line.begins.Goals as goal
 

@@ -1,12 +1,7 @@
 -- `vectors::line::begins_with_floats` meets its contract. Assumes nothing.
-use mathlib.Core.Path.{◌≡◌, refl, sym, ◌∙◌}
-use mathlib.Core.List.{map}
-use Prim.Native.Nat.{◌-◌, ◌≤◌}
+use mathlib.Core.Path.{refl, sym, ◌∙◌}
 use native.Mathlib.Omega.{arith}
-use borrow.Author.Rules.{rules}
-use lib.Ieee.{nan, binary64, to_bits}
-use lib.ListN.{length, drop}
-use Rattle.vectors.specs.Code.Standing.{standing}
+use lib.Ieee.{nan, binary64}
 use Rattle.vectors.proofs.LineLaws.{patterns_next, patterns_differ, patterns_missing, patterns_end}
 use Rattle.vectors.proofs.line.begins_with_floats.Goals as goal
 

@@ -1,7 +1,6 @@
 -- `vectors::line::float32` meets its contract. Assumes nothing.
 use mathlib.Core.Path.{ap, ◌∙◌}
 use Prim.Native.Nat.{ℕ, ◌%◌, ◌^◌}
-use borrow.Author.Rules.{rules}
 use lib.Ieee.{binary32, of_bits}
 use Rattle.vectors.specs.Code.Lines.{float32_at}
 use Rattle.vectors.proofs.line.float32.Goals as goal

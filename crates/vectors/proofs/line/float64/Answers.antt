@@ -1,6 +1,5 @@
 -- `vectors::line::float64` meets its contract. Assumes nothing.
 use mathlib.Core.Path.{ap, ◌∙◌}
-use borrow.Author.Rules.{rules}
 use lib.Ieee.{binary64, of_bits}
 use Rattle.vectors.specs.Code.Lines.{float64_at}
 use Rattle.vectors.proofs.line.float64.Goals as goal

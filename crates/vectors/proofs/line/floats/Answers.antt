@@ -1,9 +1,8 @@
 -- `vectors::line::floats` meets its contract. Assumes nothing.
-use mathlib.Core.Path.{◌≡◌, refl}
-use Prim.Native.Nat.{ℕ, ◌-◌, ◌≤◌}
+use mathlib.Core.Path.{refl}
+use Prim.Native.Nat.{ℕ}
 use native.Mathlib.Omega.{arith}
-use borrow.Author.Rules.{rules}
-use lib.ListN.{length, take, length-set}
+use lib.ListN.{length, length-set}
 use Rattle.vectors.specs.Code.Lines.{float64_at, from_place, float64s_at}
 use Rattle.vectors.proofs.LineLaws.{fill_next, fill_end, float64_rest}
 use Rattle.vectors.proofs.line.floats.Goals as goal

@@ -1,11 +1,8 @@
 -- `vectors::line::floats` meets its contract. Assumes nothing.
-use mathlib.Core.Path.{◌≡◌, refl}
-use Prim.Native.Nat.{ℕ, ◌-◌, ◌≤◌}
-use native.Mathlib.Omega.{arith}
-use borrow.Author.Rules.{rules}
-use lib.ListN.{length, take, length-set}
-use Rattle.vectors.specs.Code.Lines.{float64_at, from_place, float64s_at}
-use Rattle.vectors.proofs.LineLaws.{fill_next, fill_end, float64_rest}
+use mathlib.Core.Path.{◌≡◌}
+use Prim.Native.Nat.{◌-◌, ◌≤◌}
+use lib.ListN.{length, take}
+use Rattle.vectors.specs.Code.Lines.{float64_at, from_place}
 use Rattle.vectors.proofs.line.floats.Given as goal
 
 abbrev pub invariant-loop-k : goal.invariant-loop-k

@@ -1,7 +1,6 @@
 -- `vectors::line::floats_stand` meets its contract. Assumes nothing.
 use mathlib.Core.Path.{◌∙◌}
 use mathlib.Core.List.{map}
-use borrow.Author.Rules.{rules}
 use lib.Ieee.{binary64, to_bits}
 use Rattle.vectors.proofs.LineLaws.{stands_at_is}
 use Rattle.vectors.proofs.line.floats_stand.Goals as goal

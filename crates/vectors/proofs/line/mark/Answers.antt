@@ -1,7 +1,6 @@
 -- `vectors::line::mark` meets its contract. Assumes nothing.
 use mathlib.Core.Path.{ap}
 use Prim.Native.Nat.{ℕ}
-use borrow.Author.Rules.{rules}
 use lib.Dec.{eqb}
 use Rattle.vectors.specs.Code.Lines.{mark_at}
 use Rattle.vectors.proofs.line.mark.Goals as goal

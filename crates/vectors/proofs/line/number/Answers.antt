@@ -1,6 +1,5 @@
 -- `vectors::line::number` meets its contract. Assumes nothing.
 use mathlib.Core.Path.{refl, sym}
-use borrow.Author.Rules.{rules}
 use lib.ListN.{get_or-eq_default}
 use Rattle.vectors.specs.Code.Lines.{number_at}
 use Rattle.vectors.proofs.line.number.Goals as goal

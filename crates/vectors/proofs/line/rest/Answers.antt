@@ -1,5 +1,4 @@
 -- `vectors::line::rest` meets its contract. Assumes nothing.
-use borrow.Author.Rules.{rules}
 use Rattle.vectors.proofs.LineLaws.{rest_is}
 use Rattle.vectors.proofs.line.rest.Goals as goal
 

@@ -1,9 +1,8 @@
 -- `vectors::line::samples` meets its contract. Assumes nothing.
-use mathlib.Core.Path.{◌≡◌, refl}
-use Prim.Native.Nat.{ℕ, ◌-◌, ◌≤◌}
+use mathlib.Core.Path.{refl}
+use Prim.Native.Nat.{ℕ}
 use native.Mathlib.Omega.{arith}
-use borrow.Author.Rules.{rules}
-use lib.ListN.{length, take, length-set}
+use lib.ListN.{length, length-set}
 use Rattle.vectors.specs.Code.Lines.{float32_at, from_place, float32s_at}
 use Rattle.vectors.proofs.LineLaws.{fill_next, fill_end, float32_rest}
 use Rattle.vectors.proofs.line.samples.Goals as goal

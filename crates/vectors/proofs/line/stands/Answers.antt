@@ -1,6 +1,5 @@
 -- `vectors::line::stands` meets its contract. Assumes nothing.
 use mathlib.Core.Path.{◌∙◌}
-use borrow.Author.Rules.{rules}
 use Rattle.vectors.proofs.LineLaws.{stands_at_is}
 use Rattle.vectors.proofs.line.stands.Goals as goal
 

@@ -1,6 +1,5 @@
 -- `vectors::mix::mix` meets its contract. Assumes nothing.
 use mathlib.Core.Path.{ap, ◌∙◌}
-use borrow.Author.Rules.{rules}
 use Rattle.vectors.specs.Code.Words.{mixed_number, mixed}
 use Rattle.vectors.proofs.mix.mix.Goals as goal
 

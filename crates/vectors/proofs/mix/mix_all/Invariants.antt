@@ -1,11 +1,8 @@
 -- `vectors::mix::mix_all` meets its contract: the fold of the numbers that are left is the fold of all. Assumes nothing.
-use mathlib.Core.Path.{◌≡◌, refl, sym, ◌∙◌}
+use mathlib.Core.Path.{◌≡◌}
 use Prim.Native.Nat.{◌-◌, ◌≤◌}
-use native.Mathlib.Omega.{arith}
-use borrow.Author.Rules.{rules}
 use lib.ListN.{length, drop}
 use Rattle.sequences.specs.Folds.{fold}
-use Rattle.sequences.proofs.FoldLaws.{fold_next, fold_end}
 use Rattle.vectors.specs.Code.Words.{mixed}
 use Rattle.vectors.proofs.mix.mix_all.Given as goal
 

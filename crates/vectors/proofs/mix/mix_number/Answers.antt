@@ -1,6 +1,5 @@
 -- `vectors::mix::mix_number` meets its contract. Assumes nothing.
 use mathlib.Core.Path.{refl}
-use borrow.Author.Rules.{rules}
 use Rattle.vectors.specs.Code.Words.{mixed_number}
 use Rattle.vectors.proofs.mix.mix_number.Goals as goal
 

@@ -1,6 +1,5 @@
 -- `vectors::mix::mix_sample` meets its contract. Assumes nothing.
 use mathlib.Core.Path.{ap, ◌∙◌}
-use borrow.Author.Rules.{rules}
 use Rattle.vectors.specs.Code.Words.{mixed_number, mixed32}
 use Rattle.vectors.proofs.mix.mix_sample.Goals as goal
 

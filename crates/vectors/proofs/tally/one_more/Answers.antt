@@ -1,6 +1,5 @@
 -- `vectors::tally::one_more` meets its contract. Assumes nothing.
 use native.Mathlib.Omega.{arith}
-use borrow.Author.Rules.{rules}
 use Rattle.vectors.specs.Code.Counts.{one_more}
 use Rattle.vectors.proofs.tally.one_more.Goals as goal
 

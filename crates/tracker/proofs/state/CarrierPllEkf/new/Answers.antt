@@ -1,6 +1,5 @@
 -- `new` is the initial tracker.
 use mathlib.Core.Bool.{true}
-use borrow.Author.Rules.{rules}
 use Rattle.ieee754.specs.Binary64.{one}
 use Rattle.tracker.specs.State.{initial_tracker}
 use Rattle.tracker.proofs.state.CarrierPllEkf.new.Goals as goal

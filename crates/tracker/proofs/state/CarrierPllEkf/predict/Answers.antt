@@ -1,6 +1,5 @@
 -- `predict`, from what the prediction of the states and of the covariance ensure.
 use mathlib.Core.Path.{ap, ◌∙◌}
-use borrow.Author.Rules.{rules}
 use Rattle.tracker_covariance.specs.declared.prediction.ProcessNoise.{ProcessNoise}
 use Rattle.tracker_covariance.specs.Prediction.{predicted}
 use Rattle.tracker.specs.State.{with_state}

@@ -1,5 +1,4 @@
 -- `reset` sets what the definition sets and keeps the rest.
-use borrow.Author.Rules.{rules}
 use Rattle.tracker.specs.State.{reset_to}
 use Rattle.tracker.proofs.state.CarrierPllEkf.reset.Goals as goal
 

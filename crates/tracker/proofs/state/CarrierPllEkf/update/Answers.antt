@@ -1,5 +1,4 @@
 -- `update`: the first correction lost, or kept and followed by the second channel's or by the lock.
-use borrow.Author.Rules.{rules}
 use Rattle.tracker.proofs.EitherUpdate.{lost_is, two_is, one_is}
 use Rattle.tracker.proofs.state.CarrierPllEkf.update.Goals as goal
 

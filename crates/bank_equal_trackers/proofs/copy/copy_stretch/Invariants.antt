@@ -1,0 +1,14 @@
+-- `copy_stretch`, one number of the copy after the other.
+use Prim.Native.Nat.{◌-◌, ◌≤◌}
+use mathlib.Core.Path.{◌≡◌, refl}
+use native.Mathlib.Omega.{arith}
+use lib.ListN.{length}
+use Rattle.bank_equal_trackers.proofs.Copying.{Copied, copied_none, copied_next, copied_end}
+use borrow.Author.Rules.{rules}
+use Rattle.bank_equal_trackers.proofs.copy.copy_stretch.Given as goal
+
+abbrev pub invariant-loop-i : goal.invariant-loop-i
+invariant-loop-i l = (l.i ≤ 2048) × (length l.w ≡ length l.initial.w) × Copied l.a l.b l.i l.initial.w l.w
+
+abbrev pub decreases-loop-i : goal.decreases-loop-i
+decreases-loop-i l = 2048 - l.i

@@ -1,0 +1,14 @@
+-- `take_values`: the form before open and assign.
+use Rattle.pass_setup.proofs.LineCases.{printed_as, values_outside, values_read}
+use borrow.Author.Rules.{rules}
+use Rattle.pass_setup.proofs.setup.take_values.Goals as goal
+
+pub returns-in_default : goal.returns-in_default
+returns-in_default c =
+    printed_as c.args.at c.args.out.now c.refuse.ensures
+    (values_outside c.args.p c.args.line.now c.values_line-said.ensures c.in_default.is)
+
+pub returns : goal.returns
+returns c =
+    printed_as c.args.at c.args.out.now c.take_channel.ensures
+    (values_read c.args.p c.args.line.now c.values_line-said.ensures _ c.in-Read.is c.ready-o.ensures)
