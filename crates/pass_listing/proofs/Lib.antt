@@ -1,2 +1,3 @@
 -- Laws of a turn of the stream.
 pub mod TurnedLaws
+pub mod CarriedLaws

@@ -21,21 +21,21 @@ use Rattle.pass_turn.specs.Code.Turning.{zeros, Begun, Finished, Turned, GetsOn}
 -- ---- the bytes that are held
 
 module _ (s : State) (p : Pass) (b : List ℕ) (w : List Float) (o : List ℕ) (h : Stands s (onward p w) b o) (due : is_due s ≡ true) where
-  all_written : s.from ≡ s.at
+  pub all_written : s.from ≡ s.at
   all_written = go (ltb s.from s.at) refl due
     where
       go : (t : Bool) → ltb s.from s.at ≡ t → cond t false (is_held s.next) ≡ true → s.from ≡ s.at
       go true t d = absurd (let z : ◌≡◌ {A = ℕ} 0 1 = cc in omega arith)
       go false t d = let l : s.at ≤ s.from = ltb-false _ _ t in let k = h.placed.sent in omega arith
 
-  held_next : is_held s.next ≡ true
+  pub held_next : is_held s.next ≡ true
   held_next = go (ltb s.from s.at) due
     where
       go : (t : Bool) → cond t false (is_held s.next) ≡ true → is_held s.next ≡ true
       go true d = absurd (let z : ◌≡◌ {A = ℕ} 0 1 = cc in omega arith)
       go false d = d
 
-  going : (n : Next) → is_held n ≡ true → (made : List ℕ) → Standing n s.error h.input made (onward p w) (take s.left b) → Onward s (onward p w) b h.input made
+  pub going : (n : Next) → is_held n ≡ true → (made : List ℕ) → Standing n s.error h.input made (onward p w) (take s.left b) → Onward s (onward p w) b h.input made
   unfolding Standing
   going Read d made t = t
   going Turn d made t = t
@@ -44,13 +44,13 @@ module _ (s : State) (p : Pass) (b : List ℕ) (w : List Float) (o : List ℕ) (
   going Ended d made t = absurd (let z : ◌≡◌ {A = ℕ} 0 1 = cc in omega arith)
   going Failed d made t = absurd (let z : ◌≡◌ {A = ℕ} 0 1 = cc in omega arith)
 
-  turning : Onward s (onward p w) b h.input h.output
+  pub turning : Onward s (onward p w) b h.input h.output
   turning more =
       going s.next held_next (h.output ++ waits s o) h.list_is more
       ∙ ap (λ (l : List ℕ). l ++ list_after (onward p w) (take s.left b ++ more)) (none_waits s o h.output all_written h.placed.within)
 
   -- at the end of the text
-  pub stands_ended : (at : ℕ) (o' : List ℕ) → at ≤ length o' → Finished p (take s.left b) (take at o') → Stands (with_last s at Ended 0) (onward p w) b o'
+  unfoldable pub stands_ended : (at : ℕ) (o' : List ℕ) → at ≤ length o' → Finished p (take s.left b) (take at o') → Stands (with_last s at Ended 0) (onward p w) b o'
   unfolding Standing Ready Listed
   stands_ended at o' within f =
       record {
@@ -64,7 +64,7 @@ module _ (s : State) (p : Pass) (b : List ℕ) (w : List Float) (o : List ℕ) (
             ∙ ap (λ (l : List ℕ). h.output ++ l) (f w);
       }
 
-  then_listed : (next : Next) (error : ℕ) (made : List ℕ) (after : Run) (left : List ℕ) → Turned next (onward p w) (take s.left b) made after left
+  pub then_listed : (next : Next) (error : ℕ) (made : List ℕ) (after : Run) (left : List ℕ) → Turned next (onward p w) (take s.left b) made after left
       → Standing next error h.input (h.output ++ made) after left
   unfolding Standing Turned Listed
   then_listed Read error made after left t =
@@ -78,7 +78,7 @@ module _ (s : State) (p : Pass) (b : List ℕ) (w : List Float) (o : List ℕ) (
 
   -- the lines that are held
   module _ (s' : State) (p' : Pass) (b' : List ℕ) (w' : List Float) (o' : List ℕ) where
-    then_ready : (next : Next) (left : ℕ) → Turned next (onward p w) (take s.left b) (take s'.at o') (onward p' w') (take s'.left b') → GetsOn next s.left left b'
+    pub then_ready : (next : Next) (left : ℕ) → Turned next (onward p w) (take s.left b) (take s'.at o') (onward p' w') (take s'.left b') → GetsOn next s.left left b'
         → Ready next left b'
     unfolding GetsOn Ready Turned
     then_ready Read left t g = g
@@ -88,7 +88,7 @@ module _ (s : State) (p : Pass) (b : List ℕ) (w : List Float) (o : List ℕ) (
     then_ready Ended left t g = tt
     then_ready Failed left t g = tt
 
-    pub stands-turned : s'.read ≡ s.read → s'.written ≡ s.written → s'.from ≡ 0 → s'.left ≤ length b' → s'.at ≤ length o'
+    unfoldable pub stands-turned : s'.read ≡ s.read → s'.written ≡ s.written → s'.from ≡ 0 → s'.left ≤ length b' → s'.at ≤ length o'
         → Turned s'.next (onward p w) (take s.left b) (take s'.at o') (onward p' w') (take s'.left b')
         → GetsOn s'.next s.left s'.left b' → Stands s' (onward p' w') b' o'
     stands-turned read written none held within t g =
@@ -105,7 +105,7 @@ module _ (s : State) (p : Pass) (b : List ℕ) (w : List Float) (o : List ℕ) (
 
 -- ---- the start, and the end
 
-pub stands_first : (s : State) (p : Pass) (b : List ℕ) (w : List Float) (o : List ℕ) → w ≡ zeros → s.read ≡ 0 → s.written ≡ 0 → s.from ≡ 0 → s.left ≡ 0
+unfoldable pub stands_first : (s : State) (p : Pass) (b : List ℕ) (w : List Float) (o : List ℕ) → w ≡ zeros → s.read ≡ 0 → s.written ≡ 0 → s.from ≡ 0 → s.left ≡ 0
     → s.at ≤ length o → s.next ≡ Read → 0 < length b → Begun p (take s.at o) → Stands s (onward p w) b o
 unfolding Standing Ready
 stands_first s p b w o zero read written none left within next room f =

@@ -1,15 +1,10 @@
 // Waiting.
 #![tactic(auto)]
 
-// Waits a hundredth of a second, or until a signal comes.
-pub fn pause() {
-    let asked = libc::types::timespec {
-        tv_sec: 0,
-        tv_nsec: 10000000,
-    };
-    let mut left = libc::types::timespec {
-        tv_sec: 0,
-        tv_nsec: 0,
-    };
-    libc::nanosleep(&asked, &mut left);
+use std::thread;
+use std::time::{Clock, Duration};
+
+// Waits a hundredth of a second.
+pub fn pause(clock: &impl Clock) {
+    thread::sleep(clock, Duration::from_millis(10));
 }

@@ -1,19 +1,30 @@
 // Lists one text after the other on standard output: a long one, one that is refused in the middle, one that is refused at its end, one with a line that is
-// longer than the buffer, an empty one, and two that cannot be read (a directory, and a descriptor that is not open). `reference/texts` made them.
+// longer than the buffer, an empty one, and two that cannot be read (a directory, and a file that is open for writing only). `reference/texts` made them.
 #![tactic(auto)]
 
-fn list_file(name: &[u8]) {
-    let input = os::open_read(name);
-    pass_listing::list(input, libc::STDOUT_FILENO);
-    libc::close(input);
+use std::fs::{File, OpenOptions};
+use std::io;
+use std::io::Read;
+use std::rt::Files;
+use std::time::Clock;
+
+fn list_text<R: Read, S: Print + Eprint + Clock>(rt: &S, input: &mut R) {
+    pass_listing::list(rt, input, &mut io::writer(rt));
 }
 
-fn main() {
-    list_file(b"long");
-    list_file(b"middle");
-    list_file(b"end");
-    list_file(b"overlong");
-    list_file(b"empty");
-    list_file(b"/");
-    pass_listing::list(-1, libc::STDOUT_FILENO);
+fn list_file<S: Files + Print + Eprint + Clock>(rt: &S, name: &str) -> io::Result<()> {
+    list_text(rt, &mut File::open(rt, name)?);
+    Ok(())
+}
+
+fn main(rt: HostRuntime) -> io::Result<()> {
+    list_file(&rt, "long")?;
+    list_file(&rt, "middle")?;
+    list_file(&rt, "end")?;
+    list_file(&rt, "overlong")?;
+    list_file(&rt, "empty")?;
+    list_file(&rt, "/")?;
+    let mut unread = OpenOptions::new().write(true).open(&rt, "/dev/null")?;
+    list_text(&rt, &mut unread);
+    Ok(())
 }

@@ -14,11 +14,11 @@ use Rattle.pass_transfer.specs.declared.Next.{Next}
 use Rattle.pass_transfer.specs.declared.Next.TheVariants.{Read, Turn, Close, Refused, Ended, Failed}
 use Rattle.pass_transfer.specs.declared.State.{State}
 use Rattle.pass_transfer.specs.Account.{Listed, Accounted, Completed, is_last}
-use Rattle.pass_transfer.specs.Code.Standing.{NoLine, is_over, is_held, is_due, Counted, Standing, Ready, waits, Placed, Stands, with_written, given_up, with_more, with_end, with_last, account_of}
+use Rattle.pass_transfer.specs.Code.Standing.{NoLine, is_over, is_held, is_due, Counted, Standing, Ready, waits, Stands, with_written, given_up, with_more, with_end, with_last, account_of}
 
 -- ---- what waits
 
-waits_count : (s : State) (o : List ℕ) → s.from ≤ s.at → s.at ≤ length o → length (waits s o) ≡ s.at - s.from
+pub waits_count : (s : State) (o : List ℕ) → s.from ≤ s.at → s.at ≤ length o → length (waits s o) ≡ s.at - s.from
 waits_count s o sent within =
     let a : length (drop s.from (take s.at o)) ≡ length (take s.at o) - s.from = simp length-drop refl in
     a ∙ ap (λ (n : ℕ). n - s.from) (length-take-le s.at o within)
@@ -36,7 +36,7 @@ Onward s g b input made = (more : List ℕ) → list_of (input ++ more) ≡ made
 -- ---- a write
 
 module _ (s : State) (g : Run) (b o : List ℕ) (h : Stands s g b o) where
-  pub stands_given_up : Stands (given_up s) g b o
+  unfoldable pub stands_given_up : Stands (given_up s) g b o
   stands_given_up =
       let q = h.placed in
       record {
@@ -49,16 +49,16 @@ module _ (s : State) (g : Run) (b o : List ℕ) (h : Stands s g b o) where
       }
 
   module _ (n : ℕ) (some : s.from + n ≤ s.at) where
-    gone-count : length (take n (waits s o)) ≡ n
+    pub gone-count : length (take n (waits s o)) ≡ n
     gone-count = let a = waits_count s o h.placed.sent h.placed.within in length-take-le n (waits s o) (omega arith)
 
-    still-made : (h.output ++ take n (waits s o)) ++ drop (s.from + n) (take s.at o) ≡ h.output ++ waits s o
+    pub still-made : (h.output ++ take n (waits s o)) ++ drop (s.from + n) (take s.at o) ≡ h.output ++ waits s o
     still-made =
         append_assoc h.output (take n (waits s o)) (drop (s.from + n) (take s.at o))
         ∙ ap (λ (l : List ℕ). h.output ++ (take n (waits s o) ++ l)) (sym (drop-drop n s.from (take s.at o)))
         ∙ ap (λ (l : List ℕ). h.output ++ l) (take-append-drop n (waits s o))
 
-    pub stands-written : Stands (with_written s n) g b o
+    unfoldable pub stands-written : Stands (with_written s n) g b o
     stands-written =
         let q = h.placed in
         let c : length (h.output ++ take n (waits s o)) ≡ length h.output + n = length-append h.output (take n (waits s o)) ∙ ap (λ (k : ℕ). length h.output + k) gone-count in
@@ -74,7 +74,7 @@ module _ (s : State) (g : Run) (b o : List ℕ) (h : Stands s g b o) where
 -- ---- a read
 
 -- bytes behind those that are held are others
-pub stands_read : (s : State) (g : Run) (b b' o : List ℕ) → Stands s g b o → length b' ≡ length b → take s.left b' ≡ take s.left b
+unfoldable pub stands_read : (s : State) (g : Run) (b b' o : List ℕ) → Stands s g b o → length b' ≡ length b → take s.left b' ≡ take s.left b
     → Stands s g b' o
 unfolding Ready
 stands_read s g b b' o h n e =
@@ -97,22 +97,22 @@ stands_read s g b b' o h n e =
     still Failed r = r
 
 module _ (s : State) (g : Run) (b o : List ℕ) (h : Stands s g b o) (e : s.next ≡ Read) where
-  reading : Onward s g b h.input (h.output ++ waits s o)
+  pub reading : Onward s g b h.input (h.output ++ waits s o)
   unfolding Standing
   reading = subst (λ (n : Next). Standing n s.error h.input (h.output ++ waits s o) g (take s.left b)) e h.list_is
 
   module _ (n : ℕ) (room : s.left + n ≤ length b) where
-    came-count : length (take n (drop s.left b)) ≡ n
+    pub came-count : length (take n (drop s.left b)) ≡ n
     came-count = let d : length (drop s.left b) ≡ length b - s.left = simp length-drop refl in length-take-le n (drop s.left b) (omega arith)
 
-    more-listed : (more : List ℕ) → list_of ((h.input ++ take n (drop s.left b)) ++ more) ≡ (h.output ++ waits s o) ++ list_after g (take (s.left + n) b ++ more)
+    pub more-listed : (more : List ℕ) → list_of ((h.input ++ take n (drop s.left b)) ++ more) ≡ (h.output ++ waits s o) ++ list_after g (take (s.left + n) b ++ more)
     more-listed more =
         let c = take n (drop s.left b) in
         ap list_of (append_assoc h.input c more) ∙ reading (c ++ more)
         ∙ ap (λ (l : List ℕ). (h.output ++ waits s o) ++ list_after g l)
         (sym (append_assoc (take s.left b) c more) ∙ ap (λ (l : List ℕ). l ++ more) (sym (take-add s.left n b)))
 
-    pub stands-more : Stands (with_more s n) g b o
+    unfoldable pub stands-more : Stands (with_more s n) g b o
     unfolding Standing Ready
     stands-more =
         let q = h.placed in
@@ -127,7 +127,7 @@ module _ (s : State) (g : Run) (b o : List ℕ) (h : Stands s g b o) (e : s.next
         }
 
   -- the text has ended
-  pub stands_end : NoLine (take s.left b) → Stands (with_end s) g b o
+  unfoldable pub stands_end : NoLine (take s.left b) → Stands (with_end s) g b o
   unfolding Standing Ready
   stands_end plain =
       let q = h.placed in
@@ -141,7 +141,7 @@ module _ (s : State) (g : Run) (b o : List ℕ) (h : Stands s g b o) (e : s.next
       }
 
   -- a read failed
-  pub stands_failed : s.from ≡ s.at → (at : ℕ) (o' : List ℕ) (error : ℕ) → at ≤ length o' → take at o' ≡ failure_text error → Stands (with_last s at Failed error) g b o'
+  unfoldable pub stands_failed : s.from ≡ s.at → (at : ℕ) (o' : List ℕ) (error : ℕ) → at ≤ length o' → take at o' ≡ failure_text error → Stands (with_last s at Failed error) g b o'
   unfolding Standing Ready Listed
   stands_failed all at o' error within f =
       let r : Onward s g b h.input h.output =
@@ -162,7 +162,7 @@ module _ (s : State) (g : Run) (b o : List ℕ) (h : Stands s g b o) (e : s.next
 
 -- ---- the end
 
-listed : (next : Next) (error : ℕ) (input made : List ℕ) (r : Run) (held : List ℕ) → Standing next error input made r held → Listed next error input made
+pub listed : (next : Next) (error : ℕ) (input made : List ℕ) (r : Run) (held : List ℕ) → Standing next error input made r held → Listed next error input made
 unfolding Standing Listed
 listed Read error input made r held t = λ more. record { rest = list_after r (held ++ more); list_is = t more }
 listed Turn error input made r held t = λ more. record { rest = list_after r (held ++ more); list_is = t more }
@@ -171,7 +171,7 @@ listed Refused error input made r held t = t
 listed Ended error input made r held t = t
 listed Failed error input made r held t = t
 
-pub accounted : (s : State) (g : Run) (b o : List ℕ) → Stands s g b o → (turns : ℕ) → Accounted (account_of s turns)
+unfoldable pub accounted : (s : State) (g : Run) (b o : List ℕ) → Stands s g b o → (turns : ℕ) → Accounted (account_of s turns)
 accounted s g b o h turns =
     record {
       input = h.input;

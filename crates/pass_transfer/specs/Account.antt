@@ -1,6 +1,7 @@
 -- What a run of `passlist` answers for (the scope, "The pass text and its list"): the bytes that its writes took are the list of the bytes that its reads brought.
 -- Definitions only.
-use Rattle.std.specs.Prelude.{◌≡◌, Bool, true, false, List, ◌++◌, ℕ, ◌<◌, length}
+use Rattle.std.specs.Prelude.{◌≡◌, Bool, true, false, List, ◌++◌, ℕ, ◌<◌, length, Option}
+use Rattle.std.specs.Io.KnownBytes.{Appends, Consumes, IsAtEnd}
 use Rattle.pass_writer.specs.Lines.{failure_text}
 use Rattle.pass_setup.specs.Listing.{list_of}
 use Rattle.pass_transfer.specs.declared.Next.{Next}
@@ -41,6 +42,14 @@ pub record Accounted (a : Account) : Type 0 where
   pub written_is : a.written ≡ length output
   pub unsent_is : a.unsent ≡ length unsent
   pub list_is : Listed a.next a.error input (output ++ unsent)
+
+-- Where it is known which bytes a reader has left and a writer holds, before and after: the bytes that were read are those that the reader has lost, the bytes that
+-- were written are those that the writer has gained, and a text that has ended is all that the reader had.
+pub record Carried (a : Account) (had left held holds : Option (List ℕ)) : Type 0 where
+  pub account : Accounted a
+  pub lost : Consumes had left account.input
+  pub gained : Appends held holds account.output
+  pub at_end : a.next ≡ Ended → IsAtEnd left
 
 -- whether nothing comes next
 abbrev pub is_last : Next → Bool

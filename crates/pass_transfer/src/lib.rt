@@ -1,13 +1,18 @@
 // One write or one read at a time, and where the stream of a pass text stands between them (the scope, "The pass text and its list"): what is made of the list is
-// written, and more of the text is read. That the two calls of the system bring and take these very bytes no contract can say; it is seen in `read_once`,
-// `write_once` and `write_waiting`, three lines each.
+// written, and more of the text is read. Where it is known which bytes a reader has left and a writer holds, these very bytes are read and written. Of the system's
+// files that is not known, and no contract can say it; it is seen in `read_once`, `write_once` and `write_waiting`, two lines each.
 #![tactic(auto)]
 
-ghost use Rattle.std.specs.Prelude.{cond, List, ◌≡◌, ℕ, ◌+◌, ◌-◌, ◌≤◌, ◌<◌, length, take};
+ghost use Rattle.std.specs.Prelude.{cond, List, ◌≡◌, ℕ, ◌+◌, ◌-◌, ◌≤◌, ◌<◌, length, take, drop, IfOk, Option};
+ghost use Rattle.std.specs.Io.KnownBytes.{WriteAppends};
 ghost use Rattle.pass_writer.specs.Code.Buffers.{longest};
 ghost use Rattle.pass_setup.specs.Listing.{Run};
 ghost use Rattle.pass_transfer.specs.Account.{is_last};
-ghost use Rattle.pass_transfer.specs.Code.Standing.{got_of, Brought, error_of, is_passing, is_over, is_held, is_due, Sizes, Countable, Counted, Placed, Stands, Asking, given_up, with_more, with_end, with_last, account_of};
+ghost use Rattle.pass_transfer.specs.Code.Standing.{got_of, Brought, Took, error_of, failure_of, is_passing, is_over, is_held, is_due, Sizes, Countable, Counted, waits, Placed, Stands, Moves, Asking, with_written, given_up, with_more, with_end, with_last, account_of};
+
+use std::io;
+use std::io::{ErrorKind, Read, Write};
+use std::time::Clock;
 
 // What comes when all that is made of the list is written: more of the text is read; the lines that are held are taken; the text has ended, and what is held of
 // a line is all that is left; or nothing, since a line was refused, since the list is at its end, or since a read failed.
@@ -26,7 +31,7 @@ pub enum Next {
 pub enum Got {
     Bytes(usize),
     End,
-    Failed,
+    Failed(io::Error),
 }
 
 // Where the stream stands. `left` bytes of the text are held at the front of its buffer; of the `at` bytes at the front of the list's buffer the first `from`
@@ -57,47 +62,52 @@ pub struct Account {
 }
 
 // What the answer of a read means.
-fn got_of(got: isize, part: &[u8]) -> Got
+fn got_of(got: io::Result<usize>, part: &[u8]) -> Got
     ensures { result ≡ got_of got (length part.now) }
 {
-    if got < 0 {
-        return Got::Failed;
+    match got {
+        Ok(n) => {
+            let count = n.min(part.len());
+            if count == 0 {
+                return Got::End;
+            }
+            Got::Bytes(count)
+        }
+        Err(error) => Got::Failed(error),
     }
-    let count = io::count(got, part);
-    if count == 0 {
-        return Got::End;
-    }
-    Got::Bytes(count)
 }
 
-fn read_once(part: &mut [u8], input: i32) -> Got
-    ensures { Brought result (length part.old) }
+fn read_once<R: Read>(part: &mut [u8], input: &mut R) -> Got
+    ensures brought { Brought result (length part.old) }
+    ensures took { Took result (R.remaining input.old) (R.remaining input.new) part.new }
 {
-    let got = libc::read(input, part);
+    let got = input.read(part);
     got_of(got, part)
 }
 
 // Reads once, behind the bytes that are held.
-fn read_behind(buf: &mut [u8], left: usize, input: i32) -> Got
+fn read_behind<R: Read>(buf: &mut [u8], left: usize, input: &mut R) -> Got
     requires { left ≤ length buf.old }
     ensures brought { Brought result (length buf.old - left) }
     ensures buf_unchanged { take left buf.new ≡ take left buf.old }
+    ensures took { Took result (R.remaining input.old) (R.remaining input.new) (drop left buf.new) }
 {
     read_once(&mut buf[left..], input)
 }
 
-// Writes once, and answers how many bytes were taken: 0 where the write failed.
-fn write_once(part: &[u8], output: i32) -> usize
-    ensures { result ≤ length part.now }
+// Writes once, and answers how many bytes were taken.
+fn write_once<W: Write>(part: &[u8], output: &mut W) -> io::Result<usize>
+    ensures upper_bound { IfOk result (λ n. n ≤ length part.now) }
+    ensures gave { WriteAppends (W.contents output.old) (W.contents output.new) result part.now }
 {
-    let got = libc::write(output, part);
-    io::count(got, part)
+    output.write(part)
 }
 
 // Writes some of what waits.
-fn write_waiting(s: State, out: &[u8], output: i32) -> usize
+fn write_waiting<W: Write>(s: State, out: &[u8], output: &mut W) -> io::Result<usize>
     requires { (s.from ≤ s.at) × (s.at ≤ length out.now) }
-    ensures { s.from + result ≤ s.at }
+    ensures upper_bound { IfOk result (λ n. s.from + n ≤ s.at) }
+    ensures gave { WriteAppends (W.contents output.old) (W.contents output.new) result (waits s out.now) }
 {
     let from = s.from;
     let at = s.at;
@@ -114,52 +124,76 @@ fn number_of(e: i32) -> u64
     e as u64
 }
 
-// The error of the call before.
-fn last_error() -> u64 {
-    let e = os::errno();
-    number_of(e)
+// The number of a call's error. One that the system did not number has that of a signal (EINTR) or of a call that would have to wait (EAGAIN) if it is of that
+// kind, and otherwise none.
+fn error_number(error: io::Error) -> u64
+    ensures { result ≡ failure_of error }
+{
+    if let Some(code) = error.raw_os_error() {
+        return number_of(code);
+    }
+    match error.kind() {
+        ErrorKind::WouldBlock => 11,
+        ErrorKind::Interrupted => 4,
+        _ => 0,
+    }
 }
 
 // Whether a call that failed so is made again: a signal came before it (EINTR), or it would have had to wait (EAGAIN), which is done here.
-fn comes_again(error: u64) -> bool
+fn comes_again(clock: &impl Clock, error: u64) -> bool
     ensures { result ≡ is_passing error }
 {
     if error == 11 {
-        pass_pause::pause();
+        pass_pause::pause(clock);
         return true;
     }
     error == 4
 }
 
 // A write took nothing: the run ends here.
-fn give_up(s: State, taken: usize) -> State
+fn give_up(rt: &impl Eprint, s: State, taken: usize, error: io::Error) -> State
     requires { taken ≡ 0 }
     ensures { result ≡ given_up s }
 {
-    os::fail(b"passlist: write");
+    let _ = eprintln!(rt; "passlist: write: {error}");
     let mut t = s;
     t.stuck = true;
     t
 }
 
-// What a write took of what waits is written; one that took nothing is made again, or ends the run.
-fn send(s: State, out: &[u8], output: i32) -> State
-    requires { (s.from < s.at) × (s.at ≤ length out.now) × (length out.now ≡ 65536) × Countable s }
-    ensures stands { (g : Run) (b : List ℕ) → Stands s g b out.now → Stands result g b out.now }
-    ensures counted { Counted s result }
+// So many of the bytes that wait are written.
+fn sent(s: State, n: usize) -> State
+    requires { (s.from + n ≤ s.at) × (s.at ≤ 65536) × Countable s }
+    ensures { result ≡ with_written s n }
 {
-    let n = write_waiting(s, out, output);
-    if n == 0 {
-        let error = last_error();
-        if comes_again(error) {
-            return s;
-        }
-        return give_up(s, n);
-    }
     let mut t = s;
     t.from = s.from + n;
     t.written = s.written + n;
     t
+}
+
+// What a write took of what waits is written; one that failed is made again, or ends the run, and so does one that took nothing.
+fn send<W: Write, S: Clock + Eprint>(rt: &S, s: State, out: &[u8], output: &mut W) -> State
+    requires { (s.from < s.at) × (s.at ≤ length out.now) × (length out.now ≡ 65536) × Countable s }
+    ensures stands { (g : Run) (b : List ℕ) → Stands s g b out.now → Stands result g b out.now }
+    ensures moves { (g : Run) (b : List ℕ) (had left held : Option (List ℕ)) → Moves s g b out.now had left held (W.contents output.old)
+        → Moves result g b out.now had left held (W.contents output.new) }
+    ensures counted { Counted s result }
+{
+    match write_waiting(s, out, output) {
+        Ok(n) => {
+            if n == 0 {
+                return give_up(rt, s, n, io::Error::from(ErrorKind::WriteZero));
+            }
+            sent(s, n)
+        }
+        Err(error) => {
+            if comes_again(rt, error_number(error)) {
+                return s;
+            }
+            give_up(rt, s, 0, error)
+        }
+    }
 }
 
 // Bytes came; the lines that are held are taken next.
@@ -214,26 +248,36 @@ pub fn closing(s: State, at: usize, next: Next, error: u64) -> State
 }
 
 // A read failed: it is made again, or the list is cut here.
-fn at_failure(s: State, out: &mut [u8], error: u64) -> State
+fn at_failure<S: Clock + Eprint>(rt: &S, s: State, out: &mut [u8], failure: io::Error) -> State
     requires { (s.next ≡ Next.Read) × (s.from ≡ s.at) × (longest ≤ length out.old) }
     ensures stands { (g : Run) (b : List ℕ) → Stands s g b out.old → Stands result g b out.new }
+    ensures moves { (g : Run) (b : List ℕ) (had left held holds : Option (List ℕ)) → Moves s g b out.old had left held holds → Moves result g b out.new had left held holds }
     ensures counted { Counted s result }
-    ensures next_value { result.next ≡ cond (is_passing error) Next.Read Next.Failed }
-    ensures error_value { result.error ≡ cond (is_passing error) s.error error }
+    ensures next_value { result.next ≡ cond (is_passing (failure_of failure)) Next.Read Next.Failed }
+    ensures error_value { result.error ≡ cond (is_passing (failure_of failure)) s.error (failure_of failure) }
 {
-    if comes_again(error) {
+    let error = error_number(failure);
+    if comes_again(rt, error) {
         return s;
     }
-    os::fail(b"passlist: read");
+    let _ = eprintln!(rt; "passlist: read: {failure}");
     let n = pass_writer::lines::failure_line(out, 0, error);
     let next = Next::Failed;
     closing(s, n, next, error)
 }
 
 // More of the text, behind what is held.
-fn fetch(s: State, buf: &mut [u8], out: &mut [u8], input: i32) -> State
+fn fetch<R: Read, S: Clock + Eprint>(
+    rt: &S,
+    s: State,
+    buf: &mut [u8],
+    out: &mut [u8],
+    input: &mut R,
+) -> State
     requires { Asking s buf.old out.old × Sizes buf.old out.old × Countable s }
     ensures stands { (g : Run) → Stands s g buf.old out.old → Stands result g buf.new out.new }
+    ensures moves { (g : Run) (had held holds : Option (List ℕ)) → Moves s g buf.old out.old had (R.remaining input.old) held holds
+        → Moves result g buf.new out.new had (R.remaining input.new) held holds }
     ensures counted { Counted s result }
 {
     let left = s.left;
@@ -241,27 +285,33 @@ fn fetch(s: State, buf: &mut [u8], out: &mut [u8], input: i32) -> State
     match got {
         Got::Bytes(n) => came(s, n),
         Got::End => at_end(s),
-        Got::Failed => {
-            let error = last_error();
-            at_failure(s, out, error)
-        }
+        Got::Failed(failure) => at_failure(rt, s, out, failure),
     }
 }
 
 // A write of what waits, or else a read, if one is due.
-pub fn step(s: State, buf: &mut [u8], out: &mut [u8], input: i32, output: i32) -> State
+pub fn step<R: Read, W: Write, S: Clock + Eprint>(
+    rt: &S,
+    s: State,
+    buf: &mut [u8],
+    out: &mut [u8],
+    input: &mut R,
+    output: &mut W,
+) -> State
     requires { Placed s buf.old out.old × Sizes buf.old out.old × Countable s }
     ensures stands { (g : Run) → Stands s g buf.old out.old → Stands result g buf.new out.new }
+    ensures moves { (g : Run) (had held : Option (List ℕ)) → Moves s g buf.old out.old had (R.remaining input.old) held (W.contents output.old)
+        → Moves result g buf.new out.new had (R.remaining input.new) held (W.contents output.new) }
     ensures counted { Counted s result }
 {
     let from = s.from;
     let at = s.at;
     if from < at {
-        return send(s, out, output);
+        return send(rt, s, out, output);
     }
     let next = s.next;
     if let Next::Read = next {
-        return fetch(s, buf, out, input);
+        return fetch(rt, s, buf, out, input);
     }
     s
 }

@@ -2,6 +2,6 @@
 // contract of `pass_listing::list`.
 #![tactic(auto)]
 
-fn main() {
-    pass_listing::list(libc::STDIN_FILENO, libc::STDOUT_FILENO);
+fn main(rt: HostRuntime) {
+    pass_listing::list(&rt, &mut rt.stdin(), &mut rt.stdout());
 }

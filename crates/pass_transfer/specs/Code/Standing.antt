@@ -1,5 +1,10 @@
 -- Where the stream stands between two turns. Definitions only.
-use Rattle.std.specs.Prelude.{◌≡◌, Bool, cond, true, false, ◌||◌, List, [], ◌++◌, ℕ, ◌+◌, ◌-◌, ◌≤◌, ◌<◌, min, eqb, ltb, length, take, drop, ℤ, pos, negsuc, Float}
+use Rattle.std.specs.Prelude.{◌≡◌, Bool, cond, true, false, ◌||◌, List, [], ◌++◌, ℕ, ◌+◌, ◌-◌, ◌≤◌, ◌<◌, min, eqb, ltb, length, take, drop, ℤ, pos, negsuc, Float, Result, Ok, Err, Option, unwrap_or, option_map}
+use Rattle.std.specs.Io.KnownBytes.{Keeps, Appends, Consumes, IsAtEnd}
+use Rattle.std.specs.IoError.{error_kind, raw_os_error}
+use Rattle.std.specs.declared.io.Error.{Error}
+use Rattle.std.specs.declared.io.ErrorKind.{ErrorKind}
+use Rattle.std.specs.declared.io.ErrorKind.TheVariants.{WouldBlock, Interrupted}
 use Rattle.pass_reader.specs.Bytes.{newline}
 use Rattle.pass_reader.specs.Code.Places.{place}
 use Rattle.pass_writer.specs.Code.Buffers.{longest}
@@ -22,20 +27,36 @@ abbrev pub NoLine : List ℕ → Type 0
 NoLine s = length s ≤ place newline s
 
 -- what the answer of a read into so many bytes means: how many came, none at the end of the input, or a failure
-unfoldable pub got_of : ℤ → ℕ → Got
-got_of (pos n) most = cond (eqb (min n most) 0) End (Bytes (min n most))
-got_of (negsuc n) most = Failing
+unfoldable pub got_of : Result ℕ Error → ℕ → Got
+got_of (Ok n) most = cond (eqb (min n most) 0) End (Bytes (min n most))
+got_of (Err e) most = Failing e
 
 -- bytes that came are at least one, and no more than there was room for
 unfoldable pub Brought : Got → ℕ → Type 0
 Brought (Bytes n) most = (0 < n) × (n ≤ most)
 Brought End most = Unit {0}
-Brought Failing most = Unit {0}
+Brought (Failing e) most = Unit {0}
+
+-- what a read that brought this did to the bytes that its reader has left: those that came are at the front of the part that was lent, and none came only at
+-- the end of the input, or where there was no room
+unfoldable pub Took : Got → Option (List ℕ) → Option (List ℕ) → List ℕ → Type 0
+Took (Bytes n) had left part = Consumes had left (take n part)
+Took End had left part = Keeps had left × (0 < length part → IsAtEnd left)
+Took (Failing e) had left part = Keeps had left
 
 -- an error as the system numbers it; none is negative
 abbrev pub error_of : ℤ → ℕ
 error_of (pos n) = n
 error_of (negsuc n) = 0
+
+-- the number of a call's error: the system's, or else that of a call that would have to wait or that a signal came before, if it is of that kind
+unfoldable pub kind_number : ErrorKind → ℕ
+kind_number WouldBlock = 11
+kind_number Interrupted = 4
+kind_number kind = 0
+
+unfoldable pub failure_of : Error → ℕ
+failure_of e = unwrap_or (option_map error_of (raw_os_error e)) (kind_number (error_kind e))
 
 -- whether a call that failed so is made again: EAGAIN, EINTR
 unfoldable pub is_passing : ℕ → Bool
@@ -108,6 +129,22 @@ pub record Stands (s : State) (g : Run) (buf out : List ℕ) : Type 0 where
   pub written_is : s.written ≡ length output
   pub placed : Placed s buf out
   pub list_is : Standing s.next s.error input (output ++ waits s out) g (take s.left buf)
+
+-- where the text has ended, its reader is at its end
+unfoldable pub AtEnd : Next → Option (List ℕ) → Type 0
+AtEnd Read left = Unit {0}
+AtEnd Turn left = Unit {0}
+AtEnd Close left = IsAtEnd left
+AtEnd Refused left = Unit {0}
+AtEnd Ended left = IsAtEnd left
+AtEnd Failed left = Unit {0}
+
+-- the stream stands, and its reader and its writer, as far as their bytes are known, have lost what was read and gained what was written
+pub record Moves (s : State) (g : Run) (buf out : List ℕ) (had left held holds : Option (List ℕ)) : Type 0 where
+  pub stands : Stands s g buf out
+  pub lost : Consumes had left stands.input
+  pub gained : Appends held holds stands.output
+  pub ends : AtEnd s.next left
 
 -- the stream asks for more of the text: all that was made is written, and no line is held
 pub record Asking (s : State) (buf out : List ℕ) : Type 0 where
