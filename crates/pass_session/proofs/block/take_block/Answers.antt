@@ -1,0 +1,22 @@
+-- `take_block`, by what the line says: outside the form, or a flag and samples for the channel.
+use mathlib.Core.Path.{◌≡◌, refl, sym, ◌∙◌, ap}
+use lib.Seq.{length-take-le}
+use Rattle.pass_session.proofs.BlockCases.{said_within, block_refused, block-answered}
+use borrow.Author.Rules.{rules}
+use Rattle.pass_session.proofs.block.take_block.Goals as goal
+
+pub returns-in_default : goal.returns-in_default
+returns-in_default c =
+    block_refused c.args.line.now _ _ c.block_line-said.ensures c.args.p c.args.windows.now c.args.at c.args.out.now
+    c.in_default.is c.refuse.ensures
+
+pub slice_bounds-samples-end : goal.slice_bounds-samples-end
+slice_bounds-samples-end c = said_within c.args.line.now _ _ c.block_line-said.ensures _ _ c.in-Taken.is
+
+pub slice_bounds-block-end : goal.slice_bounds-block-end
+slice_bounds-block-end c = sym (length-take-le _ _ (said_within c.args.line.now _ _ c.block_line-said.ensures _ _ c.in-Taken.is))
+
+pub returns : goal.returns
+returns c =
+    block-answered c.args.line.now _ _ c.block_line-said.ensures c.args.p c.args.windows.now c.args.at c.args.out.now _ _
+    c.block-b.result _ _ _ c.in-Taken.is c.block-b.ensures c.take_answer.ensures

@@ -1,0 +1,77 @@
+-- `run`: the lines of what is left of the chunk, run from here, come to the same as all its lines from the start.
+use mathlib.Core.Path.{◌≡◌, refl, sym, ◌∙◌, ap}
+use Prim.Native.Nat.{◌+◌, ◌-◌, ◌≤◌, ◌<◌}
+use native.Mathlib.Omega.{arith}
+use borrow.Author.Rules.{rules}
+use lib.ListN.{length, drop}
+use Rattle.pass_stream.specs.Stream.{lines}
+use Rattle.pass_setup.specs.Code.Buffers.{lines_run, as_chunk_run, past, as_printed, run_has_room}
+use Rattle.pass_session.proofs.RunLaws.{run_full, run_ends, run_goes_on, line_fits}
+use Rattle.pass_session.proofs.run.run.Goals as goal
+
+pub loop-n-init : goal.loop-n-init
+loop-n-init c = (omega arith, refl, refl, refl)
+
+pub slice_bounds-line_length-count : goal.slice_bounds-line_length-count
+slice_bounds-line_length-count c = c.loop-n.invariant.0
+
+pub shape_of-windows-then-n-eq0 : goal.shape_of-windows-then-n-eq0
+shape_of-windows-then-n-eq0 c = c.loop-n.invariant.2
+
+pub shape_of-out-then-n-eq0 : goal.shape_of-out-then-n-eq0
+shape_of-out-then-n-eq0 c = c.loop-n.invariant.1
+
+pub returns-then-n-eq0 : goal.returns-then-n-eq0
+unfolding as_chunk_run
+returns-then-n-eq0 c =
+    run_ends c.args.s.now (record { pass = c.loop-n.pass; windows = c.loop-n.windows; used = c.loop-n.used; at = c.loop-n.to; out = c.loop-n.out }) c.line_length-n.result c.line_length-n.ensures c.if-n-eq0.true
+    ∙ c.loop-n.invariant.3
+
+pub overflow_add-end : goal.overflow_add-end
+overflow_add-end c =
+    let h = line_fits c.args.s.now (record { pass = c.loop-n.pass; windows = c.loop-n.windows; used = c.loop-n.used; at = c.loop-n.to; out = c.loop-n.out }) c.line_length-n.result c.line_length-n.ensures c.loop-n.invariant.0 in
+    omega (arith, c.well_formed.1.0.1)
+
+pub slice_bounds-judge-count : goal.slice_bounds-judge-count
+slice_bounds-judge-count c = omega arith
+
+pub slice_bounds-judge-start : goal.slice_bounds-judge-start
+slice_bounds-judge-start c =
+    let h = line_fits c.args.s.now (record { pass = c.loop-n.pass; windows = c.loop-n.windows; used = c.loop-n.used; at = c.loop-n.to; out = c.loop-n.out }) c.line_length-n.result c.line_length-n.ensures c.loop-n.invariant.0 in
+    omega arith
+
+pub slice_bounds-judge-end : goal.slice_bounds-judge-end
+slice_bounds-judge-end c =
+    let h = line_fits c.args.s.now (record { pass = c.loop-n.pass; windows = c.loop-n.windows; used = c.loop-n.used; at = c.loop-n.to; out = c.loop-n.out }) c.line_length-n.result c.line_length-n.ensures c.loop-n.invariant.0 in
+    omega arith
+
+pub loop-n-smaller : goal.loop-n-smaller
+loop-n-smaller c =
+    let h = line_fits c.args.s.now (record { pass = c.loop-n.pass; windows = c.loop-n.windows; used = c.loop-n.used; at = c.loop-n.to; out = c.loop-n.out }) c.line_length-n.result c.line_length-n.ensures c.loop-n.invariant.0 in
+    let n = c.if-n-eq0.false in
+    omega arith
+
+pub loop-n-preserved : goal.loop-n-preserved
+unfolding past as_printed run_has_room
+loop-n-preserved c =
+    let e = c.line_length-n.ensures in
+    let h = line_fits c.args.s.now (record { pass = c.loop-n.pass; windows = c.loop-n.windows; used = c.loop-n.used; at = c.loop-n.to; out = c.loop-n.out }) c.line_length-n.result e c.loop-n.invariant.0 in
+    let ks = c.judge-j.auto in (
+      h,
+      ks.out ∙ c.loop-n.invariant.1,
+      ks.windows ∙ c.loop-n.invariant.2,
+      run_goes_on c.args.s.now (record { pass = c.loop-n.pass; windows = c.loop-n.windows; used = c.loop-n.used; at = c.loop-n.to; out = c.loop-n.out }) c.line_length-n.result e c.if-n-eq0.false (sym c.has_room.ensures ∙ c.loop-n-test.true) c.loop-n.invariant.0
+          c.judge-j.ensures ∙ c.loop-n.invariant.3,
+    )
+
+pub shape_of-windows : goal.shape_of-windows
+shape_of-windows c = c.loop-n.invariant.2
+
+pub shape_of-out : goal.shape_of-out
+shape_of-out c = c.loop-n.invariant.1
+
+pub returns : goal.returns
+unfolding as_chunk_run run_has_room
+returns c =
+    run_full (lines (drop c.loop-n.used c.args.s.now)) (record { pass = c.loop-n.pass; windows = c.loop-n.windows; used = c.loop-n.used; at = c.loop-n.to; out = c.loop-n.out }) (sym c.has_room.ensures ∙ c.loop-n-test.false)
+    ∙ c.loop-n.invariant.3
