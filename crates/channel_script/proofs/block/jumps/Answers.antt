@@ -1,0 +1,18 @@
+-- `channel_script::block::jumps` meets its contract: the samples that are written, and zeros behind them. Assumes nothing.
+use mathlib.Core.Path.{◌≡◌, refl}
+use Prim.Native.Nat.{◌-◌, ◌≤◌}
+use native.Mathlib.Omega.{arith}
+use borrow.Author.Rules.{rules}
+use lib.ListN.{length}
+use Rattle.channel_script.proofs.BlockLaws.{Written, written_next, written_all}
+use Rattle.channel_script.proofs.block.jumps.Goals as goal
+
+pub loop-i-init : goal.loop-i-init
+loop-i-init c = ((refl, refl), omega arith, search rules)
+
+pub loop-i-preserved : goal.loop-i-preserved
+loop-i-preserved c =
+    (written_next 4096 c.loop-i.list c.loop-i.i c.loop-i.invariant.2 (omega arith) c.cosine.ensures c.sine.ensures c.loop-i.invariant.0, omega arith, search rules)
+
+pub returns : goal.returns
+returns c = written_all 4096 c.loop-i.list c.loop-i.i c.loop-i.invariant.2 (omega arith) c.loop-i.invariant.0

@@ -1,0 +1,14 @@
+-- `replay_standing` meets its contract. Assumes nothing.
+use mathlib.Core.Path.{◌≡◌, ◌∙◌}
+use lib.ListN.{length}
+use Rattle.channel_vectors.proofs.CallCases.{with_bank_lem, without_bank, standing_line_lem}
+use Rattle.channel_words.specs.Code.Standing.{standing_words}
+use borrow.Author.Rules.{rules}
+use Rattle.channel_vectors.proofs.calls.replay_standing.Goals.{then-c, else-c}
+use Rattle.channel_vectors.proofs.calls.replay_standing.Goals as goal
+
+pub returns : goal.returns
+returns c =
+    let d = c.args.c in
+    let n : c.if-c.n ≡ length (standing_words d) = elim c.if-c.branch [ then-c w ↦ w.n-is ∙ with_bank_lem d w.if-c.true | else-c w ↦ w.n-is ∙ without_bank d w.if-c.false ] in
+    standing_line_lem _ d c.rest-w.ensures n c.channel_stands.ensures c.ends.ensures

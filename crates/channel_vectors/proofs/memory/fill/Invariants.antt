@@ -1,0 +1,18 @@
+-- `fill` meets its contract. Assumes nothing.
+use Rattle.vectors.specs.Code.Lines.{from_place}
+use Rattle.vectors.proofs.LineLaws.{fill_next, fill_end}
+use Rattle.channel_vectors.specs.Code.Memory.{sixty_fourths, filled}
+use borrow.Author.Rules.{rules}
+use mathlib.Core.Path.{◌≡◌, refl, sym, ap, ◌∙◌}
+use Prim.Native.Nat.{◌-◌, ◌≤◌}
+use native.Mathlib.Nat.{zero-add}
+use native.Mathlib.Omega.{arith}
+use lib.ListN.{length, take, length-set}
+use Rattle.ieee754.specs.Binary64.{zero}
+use Rattle.channel_vectors.proofs.memory.fill.Given as goal
+
+abbrev pub invariant-loop-i : goal.invariant-loop-i
+invariant-loop-i l = (take l.i l.windows ≡ from_place (sixty_fourths l.start) 0 l.i) × (l.i ≤ length l.initial.windows) × (length l.windows ≡ length l.initial.windows)
+
+abbrev pub decreases-loop-i : goal.decreases-loop-i
+decreases-loop-i l = length l.initial.windows - l.i
