@@ -9,8 +9,7 @@ use Rattle.channel_script.proofs.LetterLaws.{stands_for_none}
 use Rattle.channel_cases.specs.declared.number.Decimal.{Decimal}
 use Rattle.channel_cases.specs.Code.Numbers.{with_decimal, with_byte}
 use borrow.Author.Rules.{rules}
-use Rattle.channel_cases.proofs.number.with_byte.Statement.{statement}
-use Rattle.channel_cases.proofs.number.with_byte.Tie as tie
+use Rattle.channel_cases.proofs.number.with_byte.Goals as goal
 
 -- a minus and a point
 abbrev marks : Decimal → List (ℕ × Decimal)
@@ -19,26 +18,20 @@ marks d =
     ∷ (code ".", record { negative = d.negative; point = true; digits = d.digits; unit = d.unit })
     ∷ []
 
-with-decimal-requires : tie.Need-with-decimal-requires
-with-decimal-requires c κs = search rules
-
-returns : tie.Need-returns
+pub returns-in_default : goal.returns-in_default
 unfolding with_byte
-returns c =
-    let a = c.before.before.args in
-    c.with-decimal.ensures ∙ sym (stands_for_none (Unit {0}) a.b (marks a.d) (with_decimal a.d a.b) c.before.match.rest)
+returns-in_default c =
+    let a = c.args in
+    c.with_decimal.ensures ∙ sym (stands_for_none (Unit {0}) a.b (marks a.d) (with_decimal a.d a.b) c.in_default.in_default-own.rest)
 
-returns-2 : tie.Need-returns-2
+pub returns-in-45 : goal.returns-in-45
 unfolding with_byte stands_for
-returns-2 c =
-    let a = c.before.args in
-    sym (ap (with_byte a.d) c.match.keys1)
+returns-in-45 c =
+    let a = c.args in
+    sym (ap (with_byte a.d) c.in-45.is)
 
-returns-3 : tie.Need-returns-3
+pub returns-in-46 : goal.returns-in-46
 unfolding with_byte stands_for
-returns-3 c =
-    let a = c.before.args in
-    sym (ap (with_byte a.d) c.match.keys2)
-
-pub with-byte-spec : {M : Type 1} → statement M
-with-byte-spec = tie.close (tie.spec with-decimal-requires returns returns-2 returns-3)
+returns-in-46 c =
+    let a = c.args in
+    sym (ap (with_byte a.d) c.in-46.is)
