@@ -1,5 +1,5 @@
 /* Gibsumac: the C interface of the proved carrier-tracking core, for x86-64. `./install PREFIX` puts this header, libgibsumac.a and a pkg-config file into
- * PREFIX; or link target/staticlib/libgibsumac.a (`rt staticlib gibsumac`) and the C library's -lm. C11, or C++11 and later.
+ * PREFIX; or link crates/gibsumac/out/libgibsumac.a (`tools/library gibsumac`) and the C library's -lm. C11, or C++11 and later.
  *
  * In one page: open a channel (once), assign its carriers (once a pass), give it blocks of samples, release it (after the pass). Whoever would rather
  * hand in a pointer than carry the channel from call to call has a gibsumac_receiver, at the end of this file; a whole program is in docs/USING.md, with
