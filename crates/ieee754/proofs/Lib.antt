@@ -3,6 +3,7 @@ pub mod Patterns
 pub mod Fields
 pub mod IntegerRoot
 pub mod LeadingZeros
+pub mod UnitPatterns
 pub mod SquareRootCases
 pub mod NearestRoot
 pub mod SignCases
@@ -15,3 +16,5 @@ pub mod SameValue
 pub mod SmallRemainder
 pub mod RemainderSteps
 pub mod RemainderRange
+pub mod WholeRemainder
+pub mod RemainderCases

@@ -39,7 +39,7 @@ record Stepped (f : Format) (r : Float) (s : Bool) (n i : ℕ) : Type 0 where
   value : HasValue r s (count * 2 ^ i) (2 ^ low f)
 
 -- what is not below n * 2 ^ i has no smaller places
-aligned : (p m j n i : ℕ) → 0 < p → m < 2 ^ p → 2 ^ (p - 1) ≤ n → n * 2 ^ i ≤ m * 2 ^ j → i ≤ j
+pub aligned : (p m j n i : ℕ) → 0 < p → m < 2 ^ p → 2 ^ (p - 1) ≤ n → n * 2 ^ i ≤ m * 2 ^ j → i ≤ j
 aligned p m j n i P small full h = elim (lt_or_le j i) [
   | inl a ↦ absurd (not-le_of_lt (lt_of_lt_of_le (mul-lt-mul_of_pos_right small (pow_pos j)) (le_trans (fewer_places p i j P a) (mul-le-mul_right (2 ^ i) full))) h)
   | inr a ↦ a

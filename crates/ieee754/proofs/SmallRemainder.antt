@@ -38,7 +38,7 @@ rem_below f s t m n e d p h =
     some : (a b : ℕ) → a < b → 0 < b
     some a b h = omega arith
 
-zero_is : (f : Format) → of_bits f 0 ≡ plus_zero
+pub zero_is : (f : Format) → of_bits f 0 ≡ plus_zero
 unfolding of_bits
 zero_is Format.binary32 = refl
 zero_is Format.binary64 = refl

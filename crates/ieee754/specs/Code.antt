@@ -1,4 +1,5 @@
 -- What only private functions and proofs cite.
 pub mod Quotients
+pub mod Units
 pub mod WholeAway
 pub mod WholeRoot

@@ -1,0 +1,10 @@
+-- `digits` meets its contract.
+use Rattle.std.proofs.Common.{sym}
+use Rattle.ieee754.proofs.UnitPatterns.{digits_low, digits_high}
+use Rattle.ieee754.proofs.remainder.digits.Goals as goal
+
+pub returns-then-a-lt4503599627370496 : goal.returns-then-a-lt4503599627370496
+returns-then-a-lt4503599627370496 c = sym (digits_low c.args.a c.if-a-lt4503599627370496.true)
+
+pub returns : goal.returns
+returns c = sym (digits_high c.args.a c.if-a-lt4503599627370496.false)
