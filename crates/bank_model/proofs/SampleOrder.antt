@@ -1,6 +1,5 @@
 -- A bank takes each sample through its three trackers before the next; the code has each tracker take all samples in its turn. Both give the same bank and
 -- the same window memory, since a tracker reads and writes its own stretch alone, and neither the fade nor the tracker in use changes between. Assumes nothing.
-use Prim.Native.Nat.{ℕ, ◌*◌, ◌<◌}
 use mathlib.Core.Path.{◌≡◌, refl, sym, ap, ◌∙◌}
 use mathlib.Core.Bool.{Bool, true, false, cond}
 use mathlib.Core.List.{List, [], ◌∷◌}
@@ -11,8 +10,7 @@ use Rattle.sequences.specs.Pairs.{pairs, zip}
 use Rattle.sequences.specs.Folds.{fold}
 use Rattle.sequences.specs.Stretches.{within}
 use Rattle.sequences.proofs.FoldLaws.{fold_keeps}
-use Rattle.tracker.specs.declared.state.Tracked.{Tracked}
-use Rattle.tracker_model.specs.Following.{TrackerWindow, Sample, follow, follow_dual, over_lists}
+use Rattle.tracker_model.specs.Following.{TrackerWindow, follow, follow_dual, over_lists}
 use Rattle.bank_model.specs.declared.state.EkfTrackingBank.{EkfTrackingBank}
 use Rattle.bank_model.specs.Values.{with_trackers}
 use Rattle.bank_model.specs.Following.{Lists, BankWindows, fades, on_stretch, in_turn, through, bank_followed}

@@ -1,6 +1,6 @@
 -- The choice of the tracker in use (the scope, module 7): of the locked trackers the one with the highest metric above -1, the lowest of equals; 3 where
 -- there is none. Definitions only.
-use Rattle.std.specs.Prelude.{ℕ, zero, suc, Bool, cond, ◌&&◌, Float}
+use Rattle.std.specs.Prelude.{ℕ, zero, suc, cond, ◌&&◌, Float}
 use Rattle.std.specs.Float.Ieee.{lt, neg}
 use Rattle.ieee754.specs.Binary64.{one}
 use Rattle.tracker.specs.declared.state.CarrierPllEkf.{CarrierPllEkf}

@@ -1,7 +1,7 @@
 -- How far apart a bank's trackers are (the scope, module 7: `compute_tracker_frequency_diffs`, `compute_tracker_discrepancy`): the mean of the sizes
 -- of their frequency differences, each weighted by the product of two lock metrics. The products are taken in binary64, all else in binary32.
 -- Definitions only.
-use Rattle.std.specs.Prelude.{Bool, cond, ◌||◌, Float}
+use Rattle.std.specs.Prelude.{cond, ◌||◌, Float}
 use Rattle.std.specs.Float.{binary32}
 use Rattle.std.specs.Float.Ieee.{add, sub, mul, div, lt, is_nan}
 use Rattle.ieee754.specs.Binary32 as float32

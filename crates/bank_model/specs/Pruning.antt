@@ -1,7 +1,6 @@
 -- Pruning (the scope, module 7: "pruning beyond 150"): where the discrepancy is beyond 150 Hz, trackers that are more than 150 Hz off are dropped, and
 -- the bank is marked as ended. The discrepancy is compared in binary32, the deviations in binary64. Definitions only.
 use Rattle.std.specs.Prelude.{Bool, true, false, cond, not, ◌&&◌, Float}
-use Rattle.std.specs.Float.{binary32, binary64}
 use Rattle.std.specs.Float.Ieee.{lt}
 use Rattle.ieee754.specs.Binary64 as float
 use Rattle.ieee754.specs.Binary32 as float32

@@ -1,5 +1,5 @@
 -- The weighted mean in each case of its tests, and the discrepancy from its parts. Assumes nothing.
-use mathlib.Core.Path.{◌≡◌, refl, sym, ap, ◌∙◌}
+use mathlib.Core.Path.{◌≡◌, sym, ap, ◌∙◌}
 use mathlib.Core.Bool.{Bool, true, false, cond, ◌||◌}
 use lib.Ieee.{Float, binary32, add, sub, mul, div, lt, ne, is_nan}
 use Rattle.sequences.proofs.Choices.{cond_yes, cond_no}

@@ -1,6 +1,6 @@
 -- Which trackers are dropped, in each case of the tests, and the pruned bank. Assumes nothing.
 use mathlib.Core.Path.{◌≡◌, refl, sym, ap, ◌∙◌}
-use mathlib.Core.Bool.{Bool, true, false, cond, not, ◌&&◌}
+use mathlib.Core.Bool.{Bool, true, false, cond, ◌&&◌}
 use lib.Ieee.{Float, binary32, binary64, of_bits, lt}
 use Rattle.sequences.proofs.Choices.{cond_yes, cond_no}
 use Rattle.ieee754.specs.Sign.{absolute}

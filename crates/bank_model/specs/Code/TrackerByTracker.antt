@@ -1,8 +1,6 @@
 -- A bank over the samples of a block, tracker by tracker: the order in which the code takes them. proofs/SampleOrder shows that it gives what
 -- `bankFollowed` gives. Definitions only.
 use Rattle.std.specs.Prelude.{Float}
-use Rattle.tracker_model.specs.Following.{TrackerWindow}
-use Rattle.bank_model.specs.declared.state.EkfTrackingBank.{EkfTrackingBank}
 use Rattle.bank_model.specs.Values.{with_trackers}
 use Rattle.bank_model.specs.Following.{Lists, BankWindows, fades, on_stretch}
 

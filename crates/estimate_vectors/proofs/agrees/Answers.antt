@@ -1,7 +1,6 @@
 -- `estimate_vectors::agrees` meets its contract. Assumes nothing.
 use mathlib.Core.Path.{ap, ◌∙◌}
 use Prim.Native.Nat.{ℕ}
-use borrow.Author.Rules.{rules}
 use Rattle.estimate_vectors.specs.Code.Lines.{kind_agrees, line_agrees}
 use Rattle.estimate_vectors.proofs.agrees.Goals as goal
 

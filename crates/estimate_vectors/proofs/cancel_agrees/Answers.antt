@@ -3,7 +3,6 @@ use mathlib.Core.Path.{ap, ◌∙◌}
 use mathlib.Core.Bool.{◌&&◌}
 use mathlib.Core.List.{[], ◌∷◌}
 use Prim.Native.Nat.{ℕ}
-use borrow.Author.Rules.{rules}
 use lib.Ieee.{binary64, to_bits}
 use Rattle.estimate_dispersion.specs.Dispersion.{dispersion_free}
 use Rattle.vectors.specs.Code.Lines.{stands_at}

@@ -4,7 +4,6 @@ use mathlib.Core.Bool.{true, false}
 use mathlib.Core.List.{List}
 use Prim.Native.Nat.{ℕ}
 use borrow.Author.Tests.{ne_eqb}
-use borrow.Author.Rules.{rules}
 use Rattle.estimate_vectors.specs.Code.Lines.{estimate_agrees, snr_agrees, kind_agrees}
 use Rattle.estimate_vectors.proofs.kind_agrees.Goals as goal
 

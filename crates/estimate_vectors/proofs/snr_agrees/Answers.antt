@@ -4,7 +4,6 @@ use mathlib.Core.Bool.{Bool, false, ◌&&◌}
 use mathlib.Core.List.{List, [], ◌∷◌}
 use Prim.Native.Nat.{ℕ, ◌+◌, ◌≤◌, ◌<◌}
 use borrow.Author.Tests.{le-leb, lt-leb}
-use borrow.Author.Rules.{rules}
 use Rattle.vectors.specs.Code.Lines.{stands_at, ends_at}
 use Rattle.estimate_vectors.specs.Code.Lines.{ratio_word, snr_agrees}
 use Rattle.estimate_vectors.proofs.snr_agrees.Goals as goal

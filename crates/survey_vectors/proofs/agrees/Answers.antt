@@ -4,7 +4,6 @@ use mathlib.Core.Bool.{Bool, false}
 use mathlib.Core.List.{List}
 use Prim.Native.Nat.{ℕ}
 use borrow.Author.Tests.{eq-eqb, ne_eqb}
-use borrow.Author.Rules.{rules}
 use Rattle.vectors.specs.Code.Lines.{number_at}
 use Rattle.survey_vectors.specs.Code.Lines.{samples_agree, line_agrees}
 use Rattle.survey_vectors.proofs.agrees.Goals as goal

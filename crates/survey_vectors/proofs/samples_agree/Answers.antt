@@ -4,7 +4,6 @@ use mathlib.Core.Bool.{Bool, false, ◌&&◌}
 use mathlib.Core.List.{List, [], ◌∷◌}
 use Prim.Native.Nat.{ℕ, ◌+◌, ◌≤◌, ◌<◌}
 use borrow.Author.Tests.{le-leb, lt-leb}
-use borrow.Author.Rules.{rules}
 use Rattle.vectors.specs.Code.Lines.{stands_at, ends_at}
 use Rattle.survey_vectors.specs.Code.Lines.{flag_of, samples_agree}
 use Rattle.survey_vectors.proofs.samples_agree.Goals as goal

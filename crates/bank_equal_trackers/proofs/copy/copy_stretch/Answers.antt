@@ -1,10 +1,7 @@
 -- `copy_stretch`, one number of the copy after the other.
-use Prim.Native.Nat.{◌-◌, ◌≤◌}
-use mathlib.Core.Path.{◌≡◌, refl}
+use mathlib.Core.Path.{refl}
 use native.Mathlib.Omega.{arith}
-use lib.ListN.{length}
-use Rattle.bank_equal_trackers.proofs.Copying.{Copied, copied_none, copied_next, copied_end}
-use borrow.Author.Rules.{rules}
+use Rattle.bank_equal_trackers.proofs.Copying.{copied_none, copied_next, copied_end}
 use Rattle.bank_equal_trackers.proofs.copy.copy_stretch.Goals as goal
 
 pub loop-i-init : goal.loop-i-init

@@ -1,10 +1,8 @@
 -- `copy_stretch`, one number of the copy after the other.
 use Prim.Native.Nat.{◌-◌, ◌≤◌}
-use mathlib.Core.Path.{◌≡◌, refl}
-use native.Mathlib.Omega.{arith}
+use mathlib.Core.Path.{◌≡◌}
 use lib.ListN.{length}
-use Rattle.bank_equal_trackers.proofs.Copying.{Copied, copied_none, copied_next, copied_end}
-use borrow.Author.Rules.{rules}
+use Rattle.bank_equal_trackers.proofs.Copying.{Copied}
 use Rattle.bank_equal_trackers.proofs.copy.copy_stretch.Given as goal
 
 abbrev pub invariant-loop-i : goal.invariant-loop-i

@@ -1,10 +1,6 @@
 -- `same_stretches`: as long as the mark stands, the numbers passed agree.
-use Prim.Native.Nat.{◌-◌, ◌≤◌}
-use mathlib.Core.Path.{◌≡◌}
-use mathlib.Core.Bool.{true}
 use native.Mathlib.Omega.{arith}
-use Rattle.bank_equal_trackers.proofs.EqualStretches.{Agree, agree_none, agree_next, agree_end}
-use borrow.Author.Rules.{rules}
+use Rattle.bank_equal_trackers.proofs.EqualStretches.{agree_none, agree_next, agree_end}
 use Rattle.bank_equal_trackers.proofs.numbers.same_stretches.Goals as goal
 
 pub loop-i-init : goal.loop-i-init

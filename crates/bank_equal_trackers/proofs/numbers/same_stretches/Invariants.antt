@@ -2,9 +2,7 @@
 use Prim.Native.Nat.{◌-◌, ◌≤◌}
 use mathlib.Core.Path.{◌≡◌}
 use mathlib.Core.Bool.{true}
-use native.Mathlib.Omega.{arith}
-use Rattle.bank_equal_trackers.proofs.EqualStretches.{Agree, agree_none, agree_next, agree_end}
-use borrow.Author.Rules.{rules}
+use Rattle.bank_equal_trackers.proofs.EqualStretches.{Agree}
 use Rattle.bank_equal_trackers.proofs.numbers.same_stretches.Given as goal
 
 abbrev pub invariant-loop-i : goal.invariant-loop-i

@@ -1,7 +1,6 @@
 -- `are_alike`, from two trackers and two stretches, each against the first.
 use mathlib.Core.Path.{sym}
 use mathlib.Core.Bool.{true≢false}
-use borrow.Author.Rules.{rules}
 use Rattle.bank_equal_trackers.proofs.once.are_alike.Goals as goal
 
 pub returns-then-same_tracker-2 : goal.returns-then-same_tracker-2

@@ -1,7 +1,6 @@
 -- `follow_once`: what is done on stretch 1 and copied is what is done on each of the three.
 use mathlib.Core.Path.{◌∙◌}
 use Rattle.bank_equal_trackers.proofs.OneForThree.{one_for_three}
-use borrow.Author.Rules.{rules}
 use Rattle.bank_equal_trackers.proofs.once.follow_once.Goals as goal
 
 pub returns : goal.returns

@@ -1,7 +1,6 @@
 -- `same_ekf`, from the parts of a tracker.
 use Rattle.bank_equal_trackers.proofs.EqualBits.{both}
 use Rattle.bank_equal_trackers.proofs.EqualTrackers.{same_parts}
-use borrow.Author.Rules.{rules}
 use Rattle.bank_equal_trackers.proofs.trackers.same_ekf.Goals as goal
 
 pub returns : goal.returns

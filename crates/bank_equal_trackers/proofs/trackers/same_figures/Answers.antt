@@ -1,7 +1,6 @@
 -- `same_figures`, from stretches that are all of both lists.
 use mathlib.Core.Path.{refl}
 use Rattle.bank_equal_trackers.proofs.EqualStretches.{whole}
-use borrow.Author.Rules.{rules}
 use Rattle.bank_equal_trackers.proofs.trackers.same_figures.Goals as goal
 
 pub returns : goal.returns

@@ -2,7 +2,6 @@
 use mathlib.Core.Path.{sym, ◌∙◌}
 use borrow.Author.Tests.{eqb-true}
 use Rattle.bank_equal_trackers.proofs.EqualTrackers.{same_number}
-use borrow.Author.Rules.{rules}
 use Rattle.bank_equal_trackers.proofs.trackers.same_modulation.Goals as goal
 
 pub returns : goal.returns

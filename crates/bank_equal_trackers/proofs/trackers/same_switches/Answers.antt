@@ -1,7 +1,6 @@
 -- `same_switches`, from three marks that are each the same.
 use Rattle.bank_equal_trackers.proofs.EqualBits.{both}
 use Rattle.bank_equal_trackers.proofs.EqualTrackers.{same_triple}
-use borrow.Author.Rules.{rules}
 use Rattle.bank_equal_trackers.proofs.trackers.same_switches.Goals as goal
 
 pub returns : goal.returns

@@ -1,7 +1,6 @@
 -- `same_tracker`, from the tracker and the covariance.
 use Rattle.bank_equal_trackers.proofs.EqualBits.{both}
 use Rattle.bank_equal_trackers.proofs.EqualTrackers.{same_tracked}
-use borrow.Author.Rules.{rules}
 use Rattle.bank_equal_trackers.proofs.trackers.same_tracker.Goals as goal
 
 pub returns : goal.returns

@@ -1,10 +1,6 @@
 -- `are_level`: as long as the mark stands, the numbers passed of stretches 2 and 3 agree with those of stretch 1.
-use Prim.Native.Nat.{◌-◌, ◌≤◌}
-use mathlib.Core.Path.{◌≡◌}
-use mathlib.Core.Bool.{true}
 use native.Mathlib.Omega.{arith}
-use Rattle.bank_equal_trackers.proofs.EqualWindows.{LevelTo, level_none, level_next, level_end}
-use borrow.Author.Rules.{rules}
+use Rattle.bank_equal_trackers.proofs.EqualWindows.{level_none, level_next, level_end}
 use Rattle.bank_equal_trackers.proofs.windows.are_level.Goals as goal
 
 pub loop-i-init : goal.loop-i-init

@@ -2,9 +2,7 @@
 use Prim.Native.Nat.{◌-◌, ◌≤◌}
 use mathlib.Core.Path.{◌≡◌}
 use mathlib.Core.Bool.{true}
-use native.Mathlib.Omega.{arith}
-use Rattle.bank_equal_trackers.proofs.EqualWindows.{LevelTo, level_none, level_next, level_end}
-use borrow.Author.Rules.{rules}
+use Rattle.bank_equal_trackers.proofs.EqualWindows.{LevelTo}
 use Rattle.bank_equal_trackers.proofs.windows.are_level.Given as goal
 
 abbrev pub invariant-loop-i : goal.invariant-loop-i

@@ -1,6 +1,5 @@
 -- `compute_tracker_discrepancy`, from the differences and the weights.
 use Rattle.bank_pruning.proofs.DiscrepancyCases.{discrepancy_is}
-use borrow.Author.Rules.{rules}
 use Rattle.bank_pruning.proofs.discrepancy.compute_tracker_discrepancy.Goals as goal
 
 pub returns : goal.returns

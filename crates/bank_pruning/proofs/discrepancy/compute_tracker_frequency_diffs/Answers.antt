@@ -1,6 +1,5 @@
 -- `compute_tracker_frequency_diffs`, from the three frequencies.
 use Rattle.bank_pruning.proofs.DiscrepancyCases.{diffs_are}
-use borrow.Author.Rules.{rules}
 use Rattle.bank_pruning.proofs.discrepancy.compute_tracker_frequency_diffs.Goals as goal
 
 pub returns : goal.returns

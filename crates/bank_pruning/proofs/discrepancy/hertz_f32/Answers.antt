@@ -1,6 +1,5 @@
 -- `hertz_f32`, from the frequency and its conversion.
 use Rattle.bank_model.specs.Discrepancy.{hertz32}
-use borrow.Author.Rules.{rules}
 use Rattle.bank_pruning.proofs.discrepancy.hertz_f32.Goals as goal
 
 pub returns : goal.returns

@@ -1,6 +1,5 @@
 -- `joint_weight`, from the two weights.
 use Rattle.bank_model.specs.Discrepancy.{joint_weight}
-use borrow.Author.Rules.{rules}
 use Rattle.bank_pruning.proofs.discrepancy.joint_weight.Goals as goal
 
 pub returns : goal.returns

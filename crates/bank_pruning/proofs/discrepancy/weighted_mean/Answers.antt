@@ -1,6 +1,5 @@
 -- `weighted_mean`, in each case of its three tests.
 use Rattle.bank_pruning.proofs.DiscrepancyCases.{too_light, no_weight, mean_is, no_number, a_number}
-use borrow.Author.Rules.{rules}
 use Rattle.bank_pruning.proofs.discrepancy.weighted_mean.Goals as goal
 
 pub returns-then-sum : goal.returns-then-sum

@@ -1,6 +1,5 @@
 -- `far_apart`, from the two frequencies.
 use Rattle.bank_pruning.proofs.PruningCases.{far_is}
-use borrow.Author.Rules.{rules}
 use Rattle.bank_pruning.proofs.pruning.far_apart.Goals as goal
 
 pub returns : goal.returns

@@ -1,6 +1,5 @@
 -- `in_disagreement`, by which of the two is locked.
 use Rattle.bank_pruning.proofs.PruningCases.{both_locked, first_unlocked, second_unlocked}
-use borrow.Author.Rules.{rules}
 use Rattle.bank_pruning.proofs.pruning.in_disagreement.Goals as goal
 
 pub returns-then-v : goal.returns-then-v

@@ -2,7 +2,6 @@
 use Rattle.bank_model.specs.Pruning.{drops1}
 use Rattle.bank_pruning.proofs.PruningCases.{against_0, no_lock, by_metric, agreed}
 use lib.Ieee.{lt}
-use borrow.Author.Rules.{rules}
 use Rattle.bank_pruning.proofs.pruning.is_first_dropped.Goals as goal
 
 pub returns-then-u : goal.returns-then-u

@@ -3,7 +3,6 @@ use Rattle.bank_model.specs.Pruning.{drops2}
 use Rattle.bank_pruning.proofs.PruningCases.{against_0, no_lock, by_metric, agreed}
 use mathlib.Core.Bool.{not}
 use lib.Ieee.{lt}
-use borrow.Author.Rules.{rules}
 use Rattle.bank_pruning.proofs.pruning.is_second_dropped.Goals as goal
 
 pub returns-then-v : goal.returns-then-v

@@ -1,6 +1,5 @@
 -- `prune`, beyond 150 and within.
 use Rattle.bank_pruning.proofs.PruningCases.{pruned_is, within_limit}
-use borrow.Author.Rules.{rules}
 use Rattle.bank_pruning.proofs.pruning.prune.Goals as goal
 
 pub returns-then-compute_tracker_discrepancy : goal.returns-then-compute_tracker_discrepancy

@@ -3,8 +3,6 @@ use mathlib.Core.Path.{◌≡◌, sym, ◌∙◌}
 use mathlib.Core.Bool.{Bool, true, false, ◌&&◌, and-true}
 use mathlib.Core.List.{List}
 use Prim.Native.Nat.{ℕ}
-use borrow.Author.Tests.{not-true, not-false}
-use borrow.Author.Rules.{rules}
 use Rattle.vectors.specs.Code.Lines.{mark_at, stands_at, ends_at}
 use Rattle.estimate_vectors.specs.Code.Bank.{bank_words, bank_agrees}
 use Rattle.estimate_vectors.proofs.bank.bank_agrees.Goals as goal

@@ -2,7 +2,6 @@
 use mathlib.Core.Path.{◌≡◌, ap, ◌∙◌}
 use mathlib.Core.List.{List, [], ◌∷◌}
 use Prim.Native.Nat.{ℕ}
-use borrow.Author.Rules.{rules}
 use lib.Ieee.{Float, binary64, to_bits}
 use lib.ListN.{drop}
 use Rattle.vectors.specs.Code.Lines.{number_at}

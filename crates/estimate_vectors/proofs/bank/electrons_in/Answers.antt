@@ -1,6 +1,5 @@
 -- `estimate_vectors::bank::electrons_in` meets its contract. Assumes nothing.
 use mathlib.Core.Path.{◌∙◌}
-use borrow.Author.Rules.{rules}
 use Rattle.estimate_dispersion.specs.Dispersion.{electron_content}
 use Rattle.estimate_vectors.specs.Code.Bank.{electrons_from}
 use Rattle.estimate_vectors.proofs.bank.electrons_in.Goals as goal

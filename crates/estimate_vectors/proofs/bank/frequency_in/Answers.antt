@@ -1,6 +1,5 @@
 -- `estimate_vectors::bank::frequency_in` meets its contract. Assumes nothing.
 use mathlib.Core.Path.{ap, ◌∙◌}
-use borrow.Author.Rules.{rules}
 use Rattle.ieee754.specs.Binary64.{plus}
 use Rattle.estimate_dispersion.specs.Dispersion.{dispersion_free}
 use Rattle.estimate_vectors.specs.Code.Bank.{offset_of, frequency_from}

@@ -1,6 +1,5 @@
 -- `step_apart`, made and not made. Assumes nothing.
-use mathlib.Core.Path.{◌≡◌, refl, sym, ap, ◌∙◌}
-use mathlib.Core.Bool.{Bool}
+use mathlib.Core.Path.{sym, ap, ◌∙◌}
 use mathlib.Core.List.{List}
 use lib.Ieee.{Float}
 use Rattle.sequences.proofs.Choices.{cond_yes, cond_no}
@@ -8,7 +7,6 @@ use Rattle.tracker.specs.declared.state.Tracked.{Tracked}
 use Rattle.tracker_one_frequency.specs.Code.Whole.{whole}
 use Rattle.tracker_model.specs.Following.{TrackerWindow, corrected, follow}
 use Rattle.tracker_over_block.proofs.FollowingLaws.{by_lock}
-use borrow.Author.Rules.{rules}
 use Rattle.tracker_over_block.proofs.apart.step_apart.Goals as goal
 
 pub predict-a-requires : goal.predict-a-requires

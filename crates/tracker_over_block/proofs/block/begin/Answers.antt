@@ -1,10 +1,6 @@
 -- `begin`: two lists, one with the halves apart, and one without. Assumes nothing.
-use mathlib.Core.Path.{◌≡◌, refl, sym, ap, ◌∙◌}
-use mathlib.Core.List.{List}
+use mathlib.Core.Path.{◌∙◌}
 use lib.ListN.{drop}
-use lib.Ieee.{Float}
-use borrow.Author.Rules.{rules}
-use Rattle.tracker.specs.declared.state.Tracked.{Tracked}
 use Rattle.tracker_model.specs.Code.OneList.{followed}
 use Rattle.tracker_over_block.proofs.FollowingLaws.{of_one}
 use Rattle.tracker_over_block.proofs.block.begin.Goals as goal

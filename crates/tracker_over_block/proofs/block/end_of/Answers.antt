@@ -1,10 +1,7 @@
 -- `end_of`, each way of its tests. Assumes nothing.
 use mathlib.Core.Path.{◌∙◌}
-use Rattle.sequences.proofs.Choices.{cond_yes, cond_no}
+use Rattle.sequences.proofs.Choices.{cond_yes}
 use Rattle.tracker_over_block.proofs.Shorter.{shorter_first, shorter_second}
-use borrow.Author.Rules.{rules}
-use Rattle.tracker_over_block.proofs.block.end_of.Statement.{statement}
-use Rattle.tracker_over_block.proofs.block.end_of.Tie as tie
 use mathlib.Core.Path.{sym}
 use Rattle.tracker_over_block.proofs.block.end_of.Goals as goal
 

@@ -1,12 +1,7 @@
 -- `follow_from`: what is left of the lists makes of the tracker what all from the place on make of the first. Assumes nothing.
-use mathlib.Core.Path.{◌≡◌, refl, ◌∙◌, sym}
-use mathlib.Core.Bool.{true, cond}
-use Prim.Native.Nat.{◌+◌, ◌-◌, ◌≤◌, ◌<◌}
+use mathlib.Core.Path.{refl, ◌∙◌, sym}
 use native.Mathlib.Omega.{arith}
-use lib.Dec.{ltb}
-use lib.ListN.{length, drop}
-use borrow.Author.Rules.{rules}
-use Rattle.tracker_model.specs.Following.{over_lists}
+use lib.ListN.{length}
 use Rattle.tracker_over_block.proofs.FollowingLaws.{over_next, over_end, within_both}
 use Rattle.tracker_over_block.proofs.block.follow_from.Goals as goal
 

@@ -1,6 +1,5 @@
 -- `follow_lists`: as far as the halves go, and the rest. Assumes nothing.
 use mathlib.Core.Path.{◌∙◌}
-use borrow.Author.Rules.{rules}
 use Rattle.tracker_over_block.proofs.block.follow_lists.Goals as goal
 
 pub returns : goal.returns

@@ -1,13 +1,11 @@
 -- `step`: locked, fading, or neither. Assumes nothing.
-use mathlib.Core.Path.{◌≡◌, refl, ap, ◌∙◌}
-use mathlib.Core.Bool.{Bool}
+use mathlib.Core.Path.{ap, ◌∙◌}
 use lib.Ieee.{Float}
 use Rattle.sequences.proofs.Choices.{cond_yes, cond_no}
 use Rattle.tracker.specs.declared.state.Tracked.{Tracked}
 use Rattle.tracker.specs.Prediction.{predicted_over}
 use Rattle.tracker_model.specs.Following.{Sample}
 use Rattle.tracker_over_block.proofs.FollowingLaws.{by_lock, by_fade, by_neither, either, either_follows, second_of, neither_of}
-use borrow.Author.Rules.{rules}
 use Rattle.tracker_over_block.proofs.step.step.Goals as goal
 
 pub returns-then-locked : goal.returns-then-locked

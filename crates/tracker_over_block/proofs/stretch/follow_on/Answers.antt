@@ -1,7 +1,6 @@
 -- `follow_on`: what the call says of the stretch lent, said of the whole memory. Assumes nothing.
-use mathlib.Core.Path.{◌≡◌, refl}
+use mathlib.Core.Path.{refl}
 use Prim.Native.Nat.{◌+◌, ◌*◌}
-use borrow.Author.Rules.{rules}
 use Rattle.sequences.proofs.StretchLaws.{within_is}
 use Rattle.tracker_model.specs.Following.{over_lists}
 use Rattle.tracker_over_block.proofs.stretch.follow_on.Goals as goal
