@@ -1,5 +1,5 @@
 -- "A block's answer" (the scope, module 9): the channel's state after the call. Definitions only.
-use Rattle.std.specs.Prelude.{ℕ, Bool, true, false, cond, ◌&&◌, Float}
+use Rattle.std.specs.Prelude.{ℕ, false, cond, ◌&&◌, Float}
 use Rattle.ieee754.specs.Binary64 as float
 use Rattle.bank_model.specs.declared.state.EkfTrackingBank.{EkfTrackingBank}
 use Rattle.bank_model.specs.Choice.{numbered}

@@ -13,7 +13,7 @@ use Rattle.bank_model.specs.declared.state.EkfTrackingBank.{EkfTrackingBank}
 use Rattle.bank_model.specs.Values.{bank_of}
 use Rattle.channel_model.specs.declared.Settings.{Settings}
 use Rattle.channel_model.specs.declared.Setup.{Setup}
-use Rattle.channel_model.specs.declared.Status.TheVariants.{Idle, Assigned}
+use Rattle.channel_model.specs.declared.Status.TheVariants.{Idle}
 use Rattle.channel_model.specs.declared.Carriers.{Carriers}
 use Rattle.channel_model.specs.declared.Channel.{Channel}
 use Rattle.channel_model.specs.declared.Returned.{Returned}

@@ -4,7 +4,6 @@ use lib.Ieee.{Float, binary64, of_bits, to_unsigned}
 use Rattle.ieee754.specs.Integral.{rounded_away}
 use Rattle.ieee754.specs.Binary64.{times}
 use Rattle.channel_model.specs.Starting.{chunk}
-use borrow.Author.Rules.{rules}
 use Rattle.channel_acquisition.proofs.chunk.Goals as goal
 
 pub returns : goal.returns

@@ -1,6 +1,5 @@
 -- The quotient of the two whole numbers. Assumes nothing.
 use Rattle.channel_model.specs.Opening.{whole, decimated_rate}
-use borrow.Author.Rules.{rules}
 use Rattle.channel_acquisition.proofs.decimated_rate.Goals as goal
 
 pub returns : goal.returns

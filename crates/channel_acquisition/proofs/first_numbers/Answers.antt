@@ -2,7 +2,6 @@
 use mathlib.Core.Path.{sym}
 use Rattle.sequences.proofs.Choices.{cond_yes, cond_no}
 use borrow.Author.Tests.{le-leb, lt-leb}
-use borrow.Author.Rules.{rules}
 use Rattle.channel_acquisition.proofs.first_numbers.Goals as goal
 
 pub returns-then-samples-len : goal.returns-then-samples-len

@@ -1,6 +1,5 @@
 -- By the modulation. Assumes nothing.
 use Rattle.channel_model.specs.Starting.{squares}
-use borrow.Author.Rules.{rules}
 use Rattle.channel_acquisition.proofs.squares.Goals as goal
 
 pub returns-in-Carrier : goal.returns-in-Carrier

@@ -2,7 +2,6 @@
 use Rattle.channel_model.specs.Values.{moved, with_all}
 use Rattle.channel_model.specs.Starting.{restarted}
 use Rattle.channel_acquisition.proofs.StartCases.{started_at_lem}
-use borrow.Author.Rules.{rules}
 use Rattle.channel_acquisition.proofs.start_at.Goals as goal
 
 pub returns : goal.returns

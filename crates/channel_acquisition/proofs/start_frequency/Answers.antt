@@ -1,6 +1,5 @@
 -- The estimate of the first samples. Assumes nothing.
 use Rattle.channel_acquisition.proofs.StartCases.{first_numbers, first_count, frequency_is}
-use borrow.Author.Rules.{rules}
 use Rattle.channel_acquisition.proofs.start_frequency.Goals as goal
 
 pub slice_bounds-estimate_frequency_esprit-end : goal.slice_bounds-estimate_frequency_esprit-end

@@ -1,7 +1,6 @@
 -- By the lock mark. Assumes nothing.
 use Rattle.channel_model.specs.Starting.{restarted}
 use Rattle.channel_acquisition.proofs.StartCases.{stays, restarts}
-use borrow.Author.Rules.{rules}
 use Rattle.channel_acquisition.proofs.start_unlocked.Goals as goal
 
 pub returns-then-t : goal.returns-then-t

@@ -1,6 +1,5 @@
 -- By whether the channel starts. Assumes nothing.
 use Rattle.channel_acquisition.proofs.StartCases.{does_start, does_not}
-use borrow.Author.Rules.{rules}
 use Rattle.channel_acquisition.proofs.started.Goals as goal
 
 pub returns-then-starts : goal.returns-then-starts

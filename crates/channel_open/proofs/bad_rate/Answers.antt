@@ -1,7 +1,6 @@
 -- `bad_rate` is refusal 1's test, and no product overflows.
 use borrow.Author.Tests.{lt-leb, le-leb}
 use Rattle.channel_model.specs.Opening.{bad_rate}
-use borrow.Author.Rules.{rules}
 use Rattle.channel_open.proofs.bad_rate.Goals as goal
 
 pub returns-then-factor-lt1 : goal.returns-then-factor-lt1

@@ -1,7 +1,6 @@
 -- `decimated_rate` is the quotient of the two whole numbers.
 use Rattle.ieee754.specs.Binary64.{over}
 use Rattle.channel_model.specs.Opening.{decimated_rate, whole}
-use borrow.Author.Rules.{rules}
 use Rattle.channel_open.proofs.decimated_rate.Goals as goal
 
 pub returns : goal.returns

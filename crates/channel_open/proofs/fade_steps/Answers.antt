@@ -3,7 +3,6 @@ use mathlib.Core.Path.{◌∙◌}
 use lib.Ieee.{binary64, of_bits, to_unsigned}
 use Rattle.ieee754.specs.Binary64.{times, over}
 use Rattle.channel_model.specs.Opening.{fade_steps, whole}
-use borrow.Author.Rules.{rules}
 use Rattle.channel_open.proofs.fade_steps.Goals as goal
 
 pub returns : goal.returns

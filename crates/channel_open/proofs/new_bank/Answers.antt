@@ -1,6 +1,5 @@
 -- `new_bank` is the bank at rest with three equal trackers.
 use Rattle.channel_model.specs.Opening.{resting_bank}
-use borrow.Author.Rules.{rules}
 use Rattle.channel_open.proofs.new_bank.Goals as goal
 
 pub returns : goal.returns

@@ -2,7 +2,6 @@
 use lib.Ieee.{of_bits}
 use Rattle.channel_model.specs.Opening.{idle_channel}
 use Rattle.channel_open.proofs.OpeningCases.{channel_is}
-use borrow.Author.Rules.{rules}
 use Rattle.channel_open.proofs.new_channel.Goals as goal
 
 pub returns : goal.returns

@@ -1,6 +1,5 @@
 -- `new_tracker`, from what its steps ensure.
 use Rattle.channel_open.proofs.OpeningCases.{tracker_is}
-use borrow.Author.Rules.{rules}
 use Rattle.channel_open.proofs.new_tracker.Goals as goal
 
 pub returns : goal.returns

@@ -1,6 +1,5 @@
 -- `open`, refused and accepted.
 use Rattle.channel_open.proofs.OpeningCases.{open_refused, open_accepted}
-use borrow.Author.Rules.{rules}
 use Rattle.channel_open.proofs.open.Goals as goal
 
 pub returns-then-refusal-ne0 : goal.returns-then-refusal-ne0

@@ -3,7 +3,6 @@ use mathlib.Core.Path.{sym, ◌∙◌}
 use borrow.Author.Tests.{lt-ltb, le-ltb}
 use Rattle.channel_model.specs.Refusals.{first_cause}
 use Rattle.channel_model.specs.Opening.{open_refusal}
-use borrow.Author.Rules.{rules}
 use Rattle.channel_open.proofs.open_refusal.Goals as goal
 
 pub returns-then-bad_rate : goal.returns-then-bad_rate

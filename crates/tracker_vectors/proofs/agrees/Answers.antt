@@ -1,7 +1,6 @@
 -- `tracker_vectors::agrees` meets its contract. Assumes nothing.
 use mathlib.Core.Path.{ap, ◌∙◌}
 use Prim.Native.Nat.{ℕ}
-use borrow.Author.Rules.{rules}
 use Rattle.tracker_vectors.specs.Code.Lines.{kind_agrees, line_agrees}
 use Rattle.tracker_vectors.proofs.agrees.Goals as goal
 

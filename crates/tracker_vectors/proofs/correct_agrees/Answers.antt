@@ -4,7 +4,6 @@ use mathlib.Core.Bool.{Bool}
 use mathlib.Core.List.{List}
 use Prim.Native.Nat.{ℕ}
 use borrow.Author.Tests.{eq-eqb, ne_eqb}
-use borrow.Author.Rules.{rules}
 use Rattle.vectors.specs.Code.Lines.{number_at}
 use Rattle.tracker_vectors.specs.Code.Lines.{first_agrees, second_agrees, correct_agrees}
 use Rattle.tracker_vectors.proofs.correct_agrees.Goals as goal

@@ -4,7 +4,6 @@ use mathlib.Core.Bool.{false}
 use mathlib.Core.List.{List}
 use Prim.Native.Nat.{ℕ}
 use borrow.Author.Tests.{ne_eqb}
-use borrow.Author.Rules.{rules}
 use Rattle.tracker_vectors.specs.Code.Lines.{kind_agrees}
 use Rattle.tracker_vectors.proofs.kind_agrees.Goals as goal
 

@@ -1,10 +1,8 @@
 -- `tracker_vectors::main` is safe and ends: at most a hundred million lines. Assumes nothing.
-use mathlib.Core.Path.{sym, ◌≡◌}
-use Prim.Native.Nat.{◌-◌, ◌≤◌}
+use mathlib.Core.Path.{sym}
 use native.Mathlib.Omega.{arith}
 use borrow.Author.Rules.{rules}
 use lib.Seq.{length-take-le}
-use lib.ListN.{length}
 use Rattle.vectors.proofs.CountLaws.{lines_counted}
 use Rattle.tracker_vectors.proofs.main.Goals as goal
 

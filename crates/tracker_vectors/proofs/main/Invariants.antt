@@ -1,11 +1,7 @@
 -- `tracker_vectors::main` is safe and ends: at most a hundred million lines. Assumes nothing.
-use mathlib.Core.Path.{sym, ◌≡◌}
+use mathlib.Core.Path.{◌≡◌}
 use Prim.Native.Nat.{◌-◌, ◌≤◌}
-use native.Mathlib.Omega.{arith}
-use borrow.Author.Rules.{rules}
-use lib.Seq.{length-take-le}
 use lib.ListN.{length}
-use Rattle.vectors.proofs.CountLaws.{lines_counted}
 use Rattle.tracker_vectors.proofs.main.Given as goal
 
 abbrev pub invariant-loop-t : goal.invariant-loop-t

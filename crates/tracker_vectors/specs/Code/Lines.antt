@@ -1,11 +1,10 @@
 -- The lines of the tracker's vectors (reference/README.md, the first five kinds). A line is its kind, the arguments and the numbers that the Rust
 -- answered; it agrees where the numbers that the definitions of module 3 give stand behind the arguments, to the line's end. Definitions only.
 use Rattle.std.specs.Prelude.{List, [], ◌∷◌, ◌++◌, map, Bool, true, false, cond, ◌&&◌, ℕ, eqb, Float, drop}
-use Rattle.ieee754.specs.Binary64.{zero, one, thousand}
+use Rattle.ieee754.specs.Binary64.{one, thousand}
 use Rattle.tracker_measurement.specs.declared.modulation.Modulation.TheVariants.{Carrier}
 use Rattle.tracker_covariance.specs.declared.states.Band.TheVariants.{First, Second}
 use Rattle.tracker.specs.declared.state.Tuning.{Tuning}
-use Rattle.tracker.specs.declared.state.CarrierPllEkf.{CarrierPllEkf}
 use Rattle.tracker.specs.declared.state.Tracked.{Tracked}
 use Rattle.tracker.specs.declared.correction.Corrected.{Corrected}
 use Rattle.tracker.specs.State.{tracker_of, no_power, initial_tuning, initial_tracker, reset_to}

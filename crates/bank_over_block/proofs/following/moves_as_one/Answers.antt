@@ -2,7 +2,6 @@
 use mathlib.Core.Path.{sym}
 use mathlib.Core.Bool.{true≢false}
 use Rattle.bank_over_block.proofs.FollowingCases.{neither}
-use borrow.Author.Rules.{rules}
 use Rattle.bank_over_block.proofs.following.moves_as_one.Goals as goal
 
 pub returns-then-b-n : goal.returns-then-b-n

@@ -1,6 +1,5 @@
 -- `choose`, from its three steps.
 use Rattle.bank_selection.proofs.ChoiceCases.{chosen_is}
-use borrow.Author.Rules.{rules}
 use Rattle.bank_selection.proofs.choice.choose.Goals as goal
 
 pub returns : goal.returns

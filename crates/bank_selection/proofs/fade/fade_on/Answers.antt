@@ -1,6 +1,5 @@
 -- `fade_on`: the fade ends, it lasts, there is none.
 use Rattle.bank_selection.proofs.FadeCases.{fade_ends, fade_lasts, none_in_use}
-use borrow.Author.Rules.{rules}
 use Rattle.bank_selection.proofs.fade.fade_on.Goals as goal
 
 pub returns-then-b-n : goal.returns-then-b-n

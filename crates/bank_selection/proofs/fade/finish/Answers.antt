@@ -1,7 +1,6 @@
 -- `finish`, from pruning and settling.
 use mathlib.Core.Path.{ap, ◌∙◌}
 use Rattle.bank_model.specs.Fade.{selected, finished}
-use borrow.Author.Rules.{rules}
 use Rattle.bank_selection.proofs.fade.finish.Goals as goal
 
 pub returns : goal.returns

@@ -1,7 +1,6 @@
 -- `one_more`, below the largest count and at it.
 use borrow.Author.Tests.{lt-ltb, le-ltb}
 use Rattle.bank_model.specs.Fade.{one_more}
-use borrow.Author.Rules.{rules}
 use Rattle.bank_selection.proofs.fade.one_more.Goals as goal
 
 pub returns-then-n-lt18446744073709551615 : goal.returns-then-n-lt18446744073709551615

@@ -1,6 +1,5 @@
 -- `select`, by whether a tracker is chosen.
 use Rattle.bank_selection.proofs.FadeCases.{one_chosen, none_chosen}
-use borrow.Author.Rules.{rules}
 use Rattle.bank_selection.proofs.fade.select.Goals as goal
 
 pub returns-then-i-lt3 : goal.returns-then-i-lt3

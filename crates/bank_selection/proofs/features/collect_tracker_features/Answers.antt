@@ -1,6 +1,5 @@
 -- `collect_tracker_features`, from three times four figures.
 use Rattle.bank_selection.proofs.FeatureCases.{features_are}
-use borrow.Author.Rules.{rules}
 use Rattle.bank_selection.proofs.features.collect_tracker_features.Goals as goal
 
 pub returns : goal.returns

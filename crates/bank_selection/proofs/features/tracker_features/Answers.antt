@@ -1,6 +1,5 @@
 -- `tracker_features`, from its four figures.
 use Rattle.bank_model.specs.Features.{tracker_features}
-use borrow.Author.Rules.{rules}
 use Rattle.bank_selection.proofs.features.tracker_features.Goals as goal
 
 pub returns : goal.returns

@@ -1,6 +1,5 @@
 -- `tracker_vectors::after::figure_words` meets its contract. Assumes nothing.
 use mathlib.Core.List.{[], ◌∷◌}
-use borrow.Author.Rules.{rules}
 use Rattle.tracker_vectors.specs.Code.After.{figure_words}
 use Rattle.tracker_vectors.proofs.after.figure_words.Goals as goal
 

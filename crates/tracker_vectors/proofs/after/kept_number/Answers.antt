@@ -1,6 +1,5 @@
 -- `tracker_vectors::after::kept_number` meets its contract. Assumes nothing.
 use mathlib.Core.Path.{sym, ap}
-use borrow.Author.Rules.{rules}
 use Rattle.tracker_vectors.specs.Code.After.{kept_number}
 use Rattle.tracker_vectors.proofs.after.kept_number.Goals as goal
 

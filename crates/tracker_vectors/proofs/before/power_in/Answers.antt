@@ -1,5 +1,4 @@
 -- `tracker_vectors::before::power_in` meets its contract. Assumes nothing.
-use borrow.Author.Rules.{rules}
 use Rattle.tracker_vectors.specs.Code.Before.{power_from}
 use Rattle.tracker_vectors.proofs.before.power_in.Goals as goal
 

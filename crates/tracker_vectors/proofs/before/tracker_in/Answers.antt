@@ -1,6 +1,5 @@
 -- `tracker_vectors::before::tracker_in` meets its contract. Assumes nothing.
 use mathlib.Core.Path.{ap, ◌∙◌}
-use borrow.Author.Rules.{rules}
 use Rattle.tracker_vectors.specs.Code.Before.{modulation_of, tracker_from}
 use Rattle.tracker_vectors.proofs.before.tracker_in.Goals as goal
 

@@ -3,7 +3,6 @@ use mathlib.Core.Path.{◌≡◌, refl}
 use mathlib.Core.List.{List}
 use Prim.Native.Nat.{ℕ, ◌%◌}
 use borrow.Author.Tests.{eq-eqb, ne_eqb}
-use borrow.Author.Rules.{rules}
 use lib.Ieee.{Float, binary64, of_bits}
 use lib.ListN.{set, replicate}
 use Rattle.vectors.specs.Code.Lines.{number_at, float64_at}

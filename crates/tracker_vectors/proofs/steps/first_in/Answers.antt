@@ -3,7 +3,6 @@ use mathlib.Core.Path.{◌≡◌, ◌∙◌}
 use mathlib.Core.Bool.{false}
 use mathlib.Core.List.{List}
 use Prim.Native.Nat.{ℕ, ◌+◌, ◌*◌, ◌%◌}
-use borrow.Author.Rules.{rules}
 use lib.Ieee.{Float, nan}
 use lib.ListN.{get_or}
 use Rattle.tracker_covariance.specs.declared.states.Band.TheVariants.{First}

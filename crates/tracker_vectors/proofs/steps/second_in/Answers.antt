@@ -3,7 +3,6 @@ use mathlib.Core.Path.{◌≡◌, ap, ◌∙◌}
 use mathlib.Core.Bool.{false}
 use mathlib.Core.List.{List}
 use Prim.Native.Nat.{ℕ, ◌+◌, ◌*◌, ◌%◌}
-use borrow.Author.Rules.{rules}
 use lib.Ieee.{Float, nan}
 use lib.ListN.{get_or}
 use Rattle.ieee754.specs.Binary64.{zero}

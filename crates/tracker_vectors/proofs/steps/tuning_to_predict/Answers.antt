@@ -3,7 +3,6 @@ use mathlib.Core.Path.{◌≡◌}
 use mathlib.Core.Bool.{Bool, true}
 use mathlib.Core.List.{List}
 use Prim.Native.Nat.{ℕ}
-use borrow.Author.Rules.{rules}
 use lib.Ieee.{Float}
 use Rattle.ieee754.specs.Binary64.{one, thousand}
 use Rattle.tracker_measurement.specs.declared.modulation.Modulation.TheVariants.{Carrier}
