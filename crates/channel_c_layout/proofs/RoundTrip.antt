@@ -1,7 +1,7 @@
 -- A channel that goes out in C's layout comes back as it was: what a C caller holds between two calls is the channel itself. So does a struct that a refused
 -- call is given, whatever its numbers.
 use Prim.Native.Nat.{ℕ}
-use mathlib.Core.Path.{◌≡◌, refl, sym, ◌∙◌, ap}
+use mathlib.Core.Path.{◌≡◌, refl, sym}
 use mathlib.Core.Logic.{◌≢◌}
 use mathlib.Core.Bool.{Bool, true, false, cond}
 use lib.Dec.{eqb}

@@ -10,7 +10,7 @@ use lib.Seq.{take-nil, drop-nil, drop-drop, get_or-drop}
 use lib.Ieee.{Float, binary32, to_bits}
 use Rattle.sequences.specs.Folds.{fold}
 use Rattle.sequences.proofs.Choices.{cond_yes, cond_no}
-use Rattle.vectors.specs.Code.Words.{mixed, mixed32}
+use Rattle.vectors.specs.Code.Words.{mixed32}
 use Rattle.vectors.specs.Code.Lines.{number_at, same_numbers, stands_at, ends_at}
 use Rattle.channel_model.specs.declared.Answer.{Answer}
 use Rattle.channel_model.specs.declared.Blocked.{Blocked}

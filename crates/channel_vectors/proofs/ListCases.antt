@@ -1,7 +1,7 @@
 -- The lists that a block's line gives, from what the steps ensure. Assumes nothing.
 use mathlib.Core.Path.{◌≡◌, sym, ap, ◌∙◌, subst}
 use mathlib.Core.Bool.{Bool, true, false, ◌&&◌}
-use mathlib.Core.List.{List, [], ◌++◌}
+use mathlib.Core.List.{List, ◌++◌}
 use Prim.Native.Nat.{ℕ, ◌+◌, ◌*◌, ◌≤◌, ◌<◌}
 use native.Mathlib.Omega.{arith}
 use borrow.Author.Tests.{le-leb, lt-leb}
@@ -9,7 +9,7 @@ use lib.Dec.{leb}
 use lib.ListN.{length, take, drop}
 use lib.Seq.{take_at, length-take-le}
 use lib.Ieee.{Float}
-use Rattle.sequences.proofs.Choices.{cond_yes, cond_no}
+use Rattle.sequences.proofs.Choices.{cond_yes}
 use Rattle.vectors.specs.Code.Lines.{number_at, float32s_at}
 use Rattle.channel_words.specs.declared.rules.Rule.{Rule}
 use Rattle.channel_words.specs.Code.Arguments.{rule_at}

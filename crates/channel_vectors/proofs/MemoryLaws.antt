@@ -1,5 +1,5 @@
 -- The window memory as a line sets it. Assumes nothing.
-use mathlib.Core.Path.{◌≡◌, refl, sym, ap, ◌∙◌}
+use mathlib.Core.Path.{◌≡◌, sym, ap, ◌∙◌}
 use mathlib.Core.List.{List, [], ◌∷◌, ◌++◌}
 use Prim.Native.Nat.{ℕ, ◌+◌, ◌*◌, ◌/◌, ◌%◌, ◌<◌, ◌≤◌}
 use native.Mathlib.Nat.{mod-add-div, add-mul-mod_self_left}
@@ -7,7 +7,7 @@ use native.Mathlib.Numerals.{add-one}
 use native.Mathlib.Omega.{arith}
 use lib.ListN.{length, take, set, replicate, replicate-append-replicate}
 use lib.Seq.{take-suc-set, take_all}
-use lib.Ieee.{Float, of_bits, of_int, binary64}
+use lib.Ieee.{Float, of_int, binary64}
 use lib.IntN.{pos}
 use Rattle.ieee754.specs.Binary64.{over}
 use Rattle.channel_model.specs.Opening.{whole}

@@ -20,7 +20,6 @@ use Rattle.channel_model.specs.declared.Setup.{Setup}
 use Rattle.channel_model.specs.declared.Status.{Status}
 use Rattle.channel_model.specs.declared.Carriers.{Carriers}
 use Rattle.channel_model.specs.declared.Reading.{Reading}
-use Rattle.channel_model.specs.declared.Channel.{Channel}
 use Rattle.channel_model.specs.Values.{channel_of}
 use Rattle.channel_model.specs.Opening.{modulation_of, decimated_rate}
 use Rattle.channel_words.specs.Code.Arguments.{carriers_at}

@@ -4,7 +4,7 @@ use mathlib.Core.Logic.{◌≢◌}
 use Rattle.channel_model.specs.declared.Settings.{Settings}
 use Rattle.channel_model.specs.declared.Channel.{Channel}
 use Rattle.channel_model.specs.Opening.{open_refusal, new_channel, refused_settings}
-use Rattle.channel_model.specs.Calls.{assign, release, figures, block, Call, ask, lend, Result, model, called, refusal_of}
+use Rattle.channel_model.specs.Calls.{assign, release, figures, block, Call, ask, lend, Result, model}
 use Rattle.channel_c_layout.specs.declared.plain_channel.PlainChannel.{PlainChannel}
 use Rattle.channel_c_layout.specs.Channels.{plain_channel, real_channel}
 use Rattle.channel_c_layout.specs.Calls.{opened_c, assigned_c, blocked_c}

@@ -1,8 +1,6 @@
 -- `channel_vectors::main` is safe and ends: the lent arrays keep their lengths, and a line at a time is left to read. Assumes nothing.
-use mathlib.Core.Path.{◌≡◌, sym}
+use mathlib.Core.Path.{sym}
 use native.Mathlib.Omega.{arith}
-use borrow.Author.Rules.{rules}
-use lib.ListN.{length}
 use lib.Seq.{length-take-le}
 use Rattle.channel_vectors.proofs.main.Goals as goal
 

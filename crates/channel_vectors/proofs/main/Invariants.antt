@@ -1,9 +1,6 @@
 -- `channel_vectors::main` is safe and ends: the lent arrays keep their lengths, and a line at a time is left to read. Assumes nothing.
-use mathlib.Core.Path.{◌≡◌, sym}
-use native.Mathlib.Omega.{arith}
-use borrow.Author.Rules.{rules}
+use mathlib.Core.Path.{◌≡◌}
 use lib.ListN.{length}
-use lib.Seq.{length-take-le}
 use Rattle.channel_vectors.proofs.main.Given as goal
 
 abbrev pub invariant-loop-left : goal.invariant-loop-left

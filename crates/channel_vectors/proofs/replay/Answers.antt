@@ -1,6 +1,5 @@
 -- `replay` meets its contract. Assumes nothing.
 use Rattle.channel_vectors.proofs.LineCases.{memory_set, listed, ruled, called}
-use borrow.Author.Rules.{rules}
 use Rattle.channel_vectors.proofs.replay.Goals as goal
 
 pub returns-then-kind-lt3 : goal.returns-then-kind-lt3

@@ -1,7 +1,6 @@
 -- The answer, with a bank and without. Assumes nothing.
 use mathlib.Core.Bool.{true, false}
 use Rattle.channel_answer.proofs.AnswerCases.{answer_by, answer_by_lem}
-use borrow.Author.Rules.{rules}
 use Rattle.channel_answer.proofs.answers.answer_of.Goals as goal
 
 pub returns-then-c : goal.returns-then-c

@@ -1,6 +1,5 @@
 -- The metric of a bank, by whether it has a tracker in use. Assumes nothing.
 use Rattle.channel_answer.proofs.AnswerCases.{metric_used, metric_unused}
-use borrow.Author.Rules.{rules}
 use Rattle.channel_answer.proofs.answers.bank_metric.Goals as goal
 
 pub returns-then-b-lt3 : goal.returns-then-b-lt3

@@ -1,7 +1,6 @@
 -- The channel's metric, by the lock mark and the bank. Assumes nothing.
 use borrow.Author.Tests.{not-true, not-false}
 use Rattle.channel_answer.proofs.AnswerCases.{metric_none, metric_bank, metric_single}
-use borrow.Author.Rules.{rules}
 use Rattle.channel_answer.proofs.answers.metric_of.Goals as goal
 
 pub returns-then-not-c : goal.returns-then-not-c

@@ -1,6 +1,5 @@
 -- The electron content, by the number of frequencies. Assumes nothing.
 use Rattle.channel_answer.proofs.ReadingCases.{no_electrons, electrons_told}
-use borrow.Author.Rules.{rules}
 use Rattle.channel_answer.proofs.reading.electrons_of.Goals as goal
 
 pub returns-then-two : goal.returns-then-two

@@ -1,6 +1,5 @@
 -- The frequency, of one carrier and of two. Assumes nothing.
 use Rattle.channel_answer.proofs.ReadingCases.{one_frequency, two_frequencies}
-use borrow.Author.Rules.{rules}
 use Rattle.channel_answer.proofs.reading.frequency_at.Goals as goal
 
 pub returns-then-two : goal.returns-then-two

@@ -1,6 +1,5 @@
 -- All that a tracker shows, from what the parts ensure. Assumes nothing.
 use Rattle.channel_answer.proofs.ReadingCases.{read_is}
-use borrow.Author.Rules.{rules}
 use Rattle.channel_answer.proofs.reading.read_from.Goals as goal
 
 pub returns : goal.returns

@@ -1,7 +1,6 @@
 -- The SNR shown and remembered. Assumes nothing.
 use Rattle.channel_model.specs.Values.{with_snr}
 use Rattle.channel_answer.proofs.SnrLaws.{remembered_as, remembered_as_lem}
-use borrow.Author.Rules.{rules}
 use Rattle.channel_answer.proofs.values.remember.Goals as goal
 
 pub returns : goal.returns

@@ -2,7 +2,6 @@
 use mathlib.Core.Path.{sym, ◌∙◌}
 use lib.Ieee.{of_bits}
 use Rattle.channel_block.proofs.BlockCases.{accepted_size, untouched_is, block_refused, block-idle, block-assigned}
-use borrow.Author.Rules.{rules}
 use Rattle.channel_block.proofs.block.block.Goals as goal
 
 pub returns-then-number-ne0 : goal.returns-then-number-ne0

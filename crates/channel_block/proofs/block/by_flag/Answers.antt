@@ -2,7 +2,6 @@
 use mathlib.Core.Path.{◌∙◌}
 use lib.Ieee.{of_bits}
 use Rattle.channel_block.proofs.BlockCases.{untouched_is, not_locked_with, flag_0, flag_1, flag_2, flag_3, flag_4}
-use borrow.Author.Rules.{rules}
 use Rattle.channel_block.proofs.block.by_flag.Goals as goal
 
 pub returns-then-flag-eq1 : goal.returns-then-flag-eq1

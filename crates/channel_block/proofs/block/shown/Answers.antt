@@ -1,5 +1,4 @@
 -- `shown`: the channel with its answer.
-use borrow.Author.Rules.{rules}
 use Rattle.channel_block.proofs.block.shown.Goals as goal
 
 pub returns : goal.returns

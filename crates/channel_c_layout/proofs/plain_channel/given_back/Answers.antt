@@ -1,6 +1,5 @@
 -- A refused call gives back what it was given, any other what the call left.
-use mathlib.Core.Path.{sym, ◌∙◌}
-use borrow.Author.Rules.{rules}
+use mathlib.Core.Path.{sym}
 use borrow.Author.Tests.{eq-eqb}
 use Rattle.channel_c_layout.specs.Channels.{given_back}
 use Rattle.channel_c_layout.proofs.RoundTrip.{refused_given}

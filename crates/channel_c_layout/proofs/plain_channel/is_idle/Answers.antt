@@ -1,5 +1,4 @@
 use mathlib.Core.Path.{refl}
-use borrow.Author.Rules.{rules}
 use Rattle.channel_model.specs.Assigning.{idle}
 use Rattle.channel_c_layout.proofs.plain_channel.is_idle.Goals as goal
 

@@ -1,4 +1,3 @@
-use borrow.Author.Rules.{rules}
 use Rattle.channel_c_layout.specs.Channels.{real_channel}
 use Rattle.channel_c_layout.proofs.plain_channel.to_real_channel.Goals as goal
 

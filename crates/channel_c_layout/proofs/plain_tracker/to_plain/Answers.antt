@@ -1,5 +1,4 @@
 -- Field by field.
-use borrow.Author.Rules.{rules}
 use Rattle.channel_c_layout.specs.Trackers.{plain_tracker}
 use Rattle.channel_c_layout.proofs.plain_tracker.to_plain.Goals as goal
 

@@ -1,5 +1,4 @@
 -- Field by field.
-use borrow.Author.Rules.{rules}
 use Rattle.channel_c_layout.specs.Trackers.{real_tracker}
 use Rattle.channel_c_layout.proofs.plain_tracker.to_real.Goals as goal
 

@@ -1,6 +1,5 @@
 -- `assign`, refused and accepted.
 use Rattle.channel_control.proofs.Assigning.{assign_refused, assign_accepted}
-use borrow.Author.Rules.{rules}
 use Rattle.channel_control.proofs.assign.assign.Goals as goal
 
 pub returns-then-refusal-ne0 : goal.returns-then-refusal-ne0

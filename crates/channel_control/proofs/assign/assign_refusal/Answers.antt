@@ -1,9 +1,7 @@
 -- `assign_refusal`: 5 before 6.
 use mathlib.Core.Path.{sym, ◌∙◌}
-use borrow.Author.Tests.{not-true, not-false}
 use Rattle.channel_model.specs.Refusals.{first_cause}
 use Rattle.channel_model.specs.Assigning.{assign_refusal}
-use borrow.Author.Rules.{rules}
 use Rattle.channel_control.proofs.assign.assign_refusal.Goals as goal
 
 pub returns-then-not-good : goal.returns-then-not-good

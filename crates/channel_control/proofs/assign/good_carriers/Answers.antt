@@ -1,7 +1,6 @@
 -- `good_carriers` looks at all four.
 use mathlib.Core.Bool.{◌&&◌}
 use Rattle.channel_model.specs.Assigning.{good_carriers}
-use borrow.Author.Rules.{rules}
 use Rattle.channel_control.proofs.assign.good_carriers.Goals as goal
 
 pub returns : goal.returns

@@ -1,7 +1,6 @@
 -- `is_idle`, by the status.
 use mathlib.Core.Path.{ap, sym}
 use Rattle.channel_model.specs.Assigning.{idle}
-use borrow.Author.Rules.{rules}
 use Rattle.channel_control.proofs.assign.is_idle.Goals as goal
 
 pub returns-in-Idle : goal.returns-in-Idle

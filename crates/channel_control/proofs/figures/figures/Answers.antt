@@ -3,7 +3,6 @@ use mathlib.Core.Path.{sym, ◌∙◌}
 use lib.Ieee.{of_bits}
 use Rattle.sequences.proofs.Choices.{cond_yes, cond_no}
 use Rattle.channel_model.specs.Figures as model
-use borrow.Author.Rules.{rules}
 use Rattle.channel_control.proofs.figures.figures.Goals as goal
 
 pub returns-then-c : goal.returns-then-c

@@ -2,7 +2,6 @@
 use lib.Ieee.{of_bits}
 use Rattle.channel_model.specs.Opening.{idle_channel}
 use Rattle.channel_model.specs.Releasing.{released}
-use borrow.Author.Rules.{rules}
 use Rattle.channel_control.proofs.release.release.Goals as goal
 
 pub returns : goal.returns

@@ -1,7 +1,6 @@
 -- `rest`: the bank at rest with its three trackers unlocked.
 use Rattle.channel_model.specs.Opening.{resting_bank}
 use Rattle.channel_control.proofs.Releasing.{resting_with}
-use borrow.Author.Rules.{rules}
 use Rattle.channel_control.proofs.release.rest.Goals as goal
 
 pub returns : goal.returns

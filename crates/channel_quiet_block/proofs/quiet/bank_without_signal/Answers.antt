@@ -3,7 +3,6 @@ use mathlib.Core.Bool.{false}
 use Rattle.bank_model.specs.Values.{marked, with_trackers}
 use Rattle.channel_model.specs.Values.{on_each}
 use Rattle.channel_model.specs.Blocks.{bank_without_signal}
-use borrow.Author.Rules.{rules}
 use Rattle.channel_quiet_block.proofs.quiet.bank_without_signal.Goals as goal
 
 pub returns : goal.returns

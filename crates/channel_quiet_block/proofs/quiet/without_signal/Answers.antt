@@ -3,7 +3,6 @@ use mathlib.Core.Bool.{false}
 use mathlib.Core.Path.{◌∙◌}
 use Rattle.channel_model.specs.Values.{moved}
 use Rattle.channel_model.specs.Blocks.{remembered, without_signal}
-use borrow.Author.Rules.{rules}
 use Rattle.channel_quiet_block.proofs.quiet.without_signal.Goals as goal
 
 pub returns : goal.returns

@@ -1,6 +1,5 @@
 -- `bad_lengths` is refusal 8's test of both lists.
 use mathlib.Core.Bool.{◌||◌}
-use borrow.Author.Rules.{rules}
 use Rattle.channel_quiet_block.proofs.refusals.bad_lengths.Goals as goal
 
 pub returns : goal.returns

@@ -1,8 +1,7 @@
 -- `block_refusal`: the first of the six tests that holds.
 use mathlib.Core.Path.{sym, ◌∙◌}
-use borrow.Author.Tests.{lt-ltb, le-ltb, eq-eqb, ne_eqb, not-true, not-false}
+use borrow.Author.Tests.{lt-ltb, le-ltb, eq-eqb, ne_eqb}
 use Rattle.channel_model.specs.Refusals.{first_cause, bad_length, block_refusal}
-use borrow.Author.Rules.{rules}
 use Rattle.channel_quiet_block.proofs.refusals.block_refusal.Goals as goal
 
 pub returns-then-flag-gt4 : goal.returns-then-flag-gt4

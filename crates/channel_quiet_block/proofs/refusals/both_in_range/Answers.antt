@@ -1,6 +1,5 @@
 -- `both_in_range` is refusal 11's test of both lists.
 use mathlib.Core.Bool.{◌&&◌}
-use borrow.Author.Rules.{rules}
 use Rattle.channel_quiet_block.proofs.refusals.both_in_range.Goals as goal
 
 pub returns : goal.returns

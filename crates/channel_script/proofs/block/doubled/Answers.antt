@@ -1,6 +1,5 @@
 -- `channel_script::block::doubled` meets its contract. Assumes nothing.
 use lib.Ieee.{of_bits}
-use borrow.Author.Rules.{rules}
 use Rattle.channel_script.proofs.block.doubled.Goals as goal
 
 pub returns : goal.returns

@@ -1,7 +1,6 @@
 -- `channel_script::block::first_list` meets its contract. Assumes nothing.
 use Rattle.channel_script.specs.Code.Blocks.{first_memory}
 use Rattle.channel_script.proofs.BlockLaws.{two_written}
-use borrow.Author.Rules.{rules}
 use Rattle.channel_script.proofs.block.first_list.Goals as goal
 
 pub returns-then-l : goal.returns-then-l

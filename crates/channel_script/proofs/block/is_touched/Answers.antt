@@ -1,12 +1,7 @@
 -- `channel_script::block::is_touched` meets its contract: what was touched, or is touched in the memory that is left. Assumes nothing.
-use mathlib.Core.Path.{◌≡◌, refl, sym, ◌∙◌}
-use mathlib.Core.Bool.{◌||◌}
-use Prim.Native.Nat.{◌-◌, ◌≤◌}
+use mathlib.Core.Path.{refl, sym, ◌∙◌}
 use native.Mathlib.Omega.{arith}
-use borrow.Author.Rules.{rules}
 use lib.Ieee.{nan, ne, of_bits, of_int}
-use lib.ListN.{length, drop}
-use Rattle.sequences.specs.Folds.{some}
 use Rattle.channel_script.specs.Code.Blocks.{seven}
 use Rattle.channel_script.proofs.LetterLaws.{some_next, some_end}
 use Rattle.channel_script.proofs.block.is_touched.Goals as goal

@@ -1,10 +1,8 @@
 -- `channel_script::block::jumps` meets its contract: the samples that are written, and zeros behind them. Assumes nothing.
-use mathlib.Core.Path.{◌≡◌, refl}
-use Prim.Native.Nat.{◌-◌, ◌≤◌}
+use mathlib.Core.Path.{refl}
 use native.Mathlib.Omega.{arith}
 use borrow.Author.Rules.{rules}
-use lib.ListN.{length}
-use Rattle.channel_script.proofs.BlockLaws.{Written, written_next, written_all}
+use Rattle.channel_script.proofs.BlockLaws.{written_next, written_all}
 use Rattle.channel_script.proofs.block.jumps.Goals as goal
 
 pub loop-i-init : goal.loop-i-init

@@ -1,10 +1,8 @@
 -- `channel_script::block::jumps` meets its contract: the samples that are written, and zeros behind them. Assumes nothing.
-use mathlib.Core.Path.{◌≡◌, refl}
+use mathlib.Core.Path.{◌≡◌}
 use Prim.Native.Nat.{◌-◌, ◌≤◌}
-use native.Mathlib.Omega.{arith}
-use borrow.Author.Rules.{rules}
 use lib.ListN.{length}
-use Rattle.channel_script.proofs.BlockLaws.{Written, written_next, written_all}
+use Rattle.channel_script.proofs.BlockLaws.{Written}
 use Rattle.channel_script.proofs.block.jumps.Given as goal
 
 abbrev pub invariant-loop-i : goal.invariant-loop-i

@@ -5,7 +5,6 @@ use lib.Ieee.{of_bits, div}
 use Rattle.channel_script.specs.Code.Letters.{stands_for}
 use Rattle.channel_script.specs.Code.Blocks.{block_letters}
 use Rattle.channel_script.proofs.LetterLaws.{stands_for_none}
-use borrow.Author.Rules.{rules}
 use Rattle.channel_script.proofs.block.lists_of.Goals as goal
 
 pub returns-in-112 : goal.returns-in-112

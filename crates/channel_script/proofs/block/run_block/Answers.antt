@@ -1,7 +1,6 @@
 -- `channel_script::block::run_block` meets its contract: a block on its three memories. Assumes nothing.
 use lib.Ieee.{of_bits, of_int}
 use Rattle.channel_script.proofs.PlayLaws.{left_is}
-use borrow.Author.Rules.{rules}
 use Rattle.channel_script.proofs.block.run_block.Goals as goal
 
 pub returns : goal.returns

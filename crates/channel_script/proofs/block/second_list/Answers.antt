@@ -1,7 +1,6 @@
 -- `channel_script::block::second_list` meets its contract. Assumes nothing.
 use Rattle.channel_script.specs.Code.Blocks.{second_memory}
 use Rattle.channel_script.proofs.BlockLaws.{one_written}
-use borrow.Author.Rules.{rules}
 use Rattle.channel_script.proofs.block.second_list.Goals as goal
 
 pub returns : goal.returns

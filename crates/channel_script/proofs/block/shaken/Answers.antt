@@ -1,5 +1,4 @@
 -- `channel_script::block::shaken` meets its contract. Assumes nothing.
-use borrow.Author.Rules.{rules}
 use Rattle.channel_script.proofs.block.shaken.Goals as goal
 
 pub returns : goal.returns

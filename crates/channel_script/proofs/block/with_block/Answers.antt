@@ -1,6 +1,5 @@
 -- `channel_script::block::with_block` meets its contract. Assumes nothing.
 use Rattle.channel_script.specs.Code.Blocks.{with_block}
-use borrow.Author.Rules.{rules}
 use Rattle.channel_script.proofs.block.with_block.Goals as goal
 
 pub returns : goal.returns

@@ -1,6 +1,5 @@
 -- `channel_script::block::with_mark` meets its contract. Assumes nothing.
 use native.Mathlib.Omega.{arith}
-use borrow.Author.Rules.{rules}
 use Rattle.channel_script.proofs.block.with_mark.Goals as goal
 
 pub returns-then-locked : goal.returns-then-locked

@@ -1,13 +1,10 @@
 -- `channel_script::letters::is_one_of` meets its contract: what was found, or is found in the letters that are left. Assumes nothing.
-use mathlib.Core.Path.{◌≡◌, refl, sym, ◌∙◌}
+use mathlib.Core.Path.{◌≡◌}
 use mathlib.Core.Bool.{◌||◌}
 use Prim.Native.Nat.{◌-◌, ◌≤◌}
-use native.Mathlib.Omega.{arith}
-use borrow.Author.Rules.{rules}
 use lib.Dec.{eqb}
 use lib.ListN.{length, drop}
 use Rattle.sequences.specs.Folds.{some}
-use Rattle.channel_script.proofs.LetterLaws.{some_next, some_end}
 use Rattle.channel_script.proofs.letters.is_one_of.Given as goal
 
 abbrev pub invariant-loop-i : goal.invariant-loop-i

@@ -1,8 +1,5 @@
 -- `channel_script::look::counted` meets its contract. Assumes nothing.
 -- `channel_script::look::counted` meets its contract. Assumes nothing.
-use borrow.Author.Rules.{rules}
-use Rattle.channel_script.proofs.look.counted.Statement.{statement}
-use Rattle.channel_script.proofs.look.counted.Tie as tie
 use native.Mathlib.Omega.{arith}
 use Rattle.channel_script.proofs.look.counted.Goals as goal
 

@@ -1,10 +1,7 @@
 -- `channel_script::look::differing` meets its contract: those counted, and those that differ among the figures that are left. Assumes nothing.
-use mathlib.Core.Path.{◌≡◌, sym, ◌∙◌}
-use Prim.Native.Nat.{◌+◌, ◌-◌, ◌≤◌}
+use mathlib.Core.Path.{sym, ◌∙◌}
 use native.Mathlib.Omega.{arith}
 use borrow.Author.Rules.{rules}
-use lib.ListN.{length, drop}
-use Rattle.channel_script.specs.Code.Looking as meant
 use Rattle.channel_script.proofs.LookLaws.{differs_next, all_differing}
 use Rattle.channel_script.proofs.look.differing.Goals as goal
 

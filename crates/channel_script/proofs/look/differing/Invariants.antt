@@ -1,11 +1,8 @@
 -- `channel_script::look::differing` meets its contract: those counted, and those that differ among the figures that are left. Assumes nothing.
-use mathlib.Core.Path.{◌≡◌, sym, ◌∙◌}
+use mathlib.Core.Path.{◌≡◌}
 use Prim.Native.Nat.{◌+◌, ◌-◌, ◌≤◌}
-use native.Mathlib.Omega.{arith}
-use borrow.Author.Rules.{rules}
 use lib.ListN.{length, drop}
 use Rattle.channel_script.specs.Code.Looking as meant
-use Rattle.channel_script.proofs.LookLaws.{differs_next, all_differing}
 use Rattle.channel_script.proofs.look.differing.Given as goal
 
 abbrev pub invariant-loop-i : goal.invariant-loop-i

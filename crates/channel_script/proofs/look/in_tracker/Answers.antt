@@ -8,7 +8,6 @@ use Rattle.channel_model.specs.declared.Channel.{Channel}
 use Rattle.channel_script.specs.Code.Letters.{stands_for}
 use Rattle.channel_script.specs.Code.Looking.{in_tracker, tracker_names}
 use Rattle.channel_script.proofs.LetterLaws.{stands_for_none}
-use borrow.Author.Rules.{rules}
 use Rattle.channel_script.proofs.look.in_tracker.Goals as goal
 
 -- what each place has at the letter

@@ -1,6 +1,5 @@
 -- `channel_script::look::nothing` meets its contract. Assumes nothing.
 use lib.Ieee.{of_bits}
-use borrow.Author.Rules.{rules}
 use Rattle.channel_script.proofs.look.nothing.Goals as goal
 
 pub returns : goal.returns

@@ -4,7 +4,6 @@ use Prim.Native.Nat.{ℕ}
 use Rattle.channel_script.specs.Code.Letters.{stands_for}
 use Rattle.channel_script.specs.Code.Looking.{answer_names}
 use Rattle.channel_script.proofs.LetterLaws.{stands_for_none}
-use borrow.Author.Rules.{rules}
 use Rattle.channel_script.proofs.look.of_answer.Goals as goal
 
 pub returns-in-82 : goal.returns-in-82

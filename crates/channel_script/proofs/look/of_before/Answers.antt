@@ -6,7 +6,6 @@ use native.Mathlib.Omega.{arith}
 use Rattle.channel_script.specs.Code.Letters.{stands_for}
 use Rattle.channel_script.specs.Code.Looking.{answer_names}
 use Rattle.channel_script.proofs.LookLaws.{small_is, small_none}
-use borrow.Author.Rules.{rules}
 use Rattle.channel_script.proofs.look.of_before.Goals as goal
 
 pub returns-then-letter-lt32 : goal.returns-then-letter-lt32

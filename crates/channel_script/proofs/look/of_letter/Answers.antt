@@ -6,7 +6,6 @@ use Rattle.channel_model.specs.Figures.{figures}
 use Rattle.channel_script.specs.Code.Letters.{stands_for}
 use Rattle.channel_script.specs.Code.Looking.{figure_names}
 use Rattle.channel_script.proofs.LookLaws.{one_letter_lem}
-use borrow.Author.Rules.{rules}
 use Rattle.channel_script.proofs.look.of_letter.Goals as goal
 
 pub returns : goal.returns

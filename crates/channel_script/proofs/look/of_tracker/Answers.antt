@@ -5,7 +5,6 @@ use lib.Ieee.{nan, of_bits}
 use Rattle.channel_script.specs.Code.Letters.{stands_for}
 use Rattle.channel_script.specs.Code.Looking.{tracker_names}
 use Rattle.channel_script.proofs.LetterLaws.{stands_for_none}
-use borrow.Author.Rules.{rules}
 use Rattle.channel_script.proofs.look.of_tracker.Goals as goal
 
 pub returns-in-76 : goal.returns-in-76

@@ -1,7 +1,6 @@
 -- `channel_script::look::quantity` meets its contract, by the length of the name. Assumes nothing.
 use mathlib.Core.Path.{◌∙◌}
 use Rattle.channel_script.proofs.LookLaws.{one_named, two_named, not_named}
-use borrow.Author.Rules.{rules}
 use Rattle.channel_script.proofs.look.quantity.Goals as goal
 
 pub returns-then-name-eq1 : goal.returns-then-name-eq1

@@ -1,7 +1,6 @@
 -- `channel_script::look::rounded` meets its contract. Assumes nothing.
 use mathlib.Core.Path.{sym, ◌∙◌}
 use Rattle.channel_script.proofs.LookLaws.{rounded_yes, rounded_no, rounded_other}
-use borrow.Author.Rules.{rules}
 use Rattle.channel_script.proofs.look.rounded.Goals as goal
 
 pub returns-then-is_one_of : goal.returns-then-is_one_of

@@ -1,7 +1,6 @@
 -- `channel_script::session::block_called` meets its contract. Assumes nothing.
 use mathlib.Core.Path.{sym, ◌∙◌}
 use Rattle.channel_script.proofs.PlayLaws.{block_letter, no_letter}
-use borrow.Author.Rules.{rules}
 use Rattle.channel_script.proofs.session.block_called.Goals as goal
 
 pub returns-then-is_one_of : goal.returns-then-is_one_of

@@ -7,7 +7,6 @@ use Rattle.channel_script.specs.declared.session.Seen.{Seen}
 use Rattle.channel_script.specs.Code.Letters.{stands_for}
 use Rattle.channel_script.specs.Code.Playing.{after_return, session_of, remembering, unknown, call_letters, blocks_after, after_letter}
 use Rattle.channel_script.proofs.LetterLaws.{stands_for_none, stands_for_both}
-use borrow.Author.Rules.{rules}
 use Rattle.channel_script.proofs.session.called.Goals as goal
 
 pub returns-in-79 : goal.returns-in-79

@@ -1,6 +1,5 @@
 -- `channel_script::session::fed` meets its contract. Assumes nothing.
 use Rattle.channel_script.specs.Code.Playing.{after_block}
-use borrow.Author.Rules.{rules}
 use Rattle.channel_script.proofs.session.fed.Goals as goal
 
 pub returns : goal.returns

@@ -1,5 +1,4 @@
 -- `channel_script::session::first_plan` meets its contract, part by part. Assumes nothing.
-use borrow.Author.Rules.{rules}
 use Rattle.channel_script.proofs.session.first_plan.Goals as goal
 
 pub returns : goal.returns

@@ -1,6 +1,5 @@
 -- `channel_script::session::new_session` meets its contract. Assumes nothing.
 use Rattle.channel_script.specs.Code.Playing.{first_session}
-use borrow.Author.Rules.{rules}
 use Rattle.channel_script.proofs.session.new_session.Goals as goal
 
 pub returns : goal.returns

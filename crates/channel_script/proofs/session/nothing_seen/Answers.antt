@@ -1,6 +1,5 @@
 -- `channel_script::session::nothing_seen` meets its contract. Assumes nothing.
 use lib.Ieee.{of_bits}
-use borrow.Author.Rules.{rules}
 use Rattle.channel_script.proofs.session.nothing_seen.Goals as goal
 
 pub returns : goal.returns

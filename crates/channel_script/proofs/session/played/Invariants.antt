@@ -1,12 +1,9 @@
 -- `channel_script::session::played` meets its contract: the letters that are left, from the session so far, come to all of them. Assumes nothing.
-use mathlib.Core.Path.{◌≡◌, refl, sym, ◌∙◌}
+use mathlib.Core.Path.{◌≡◌}
 use Prim.Native.Nat.{◌-◌, ◌≤◌}
-use native.Mathlib.Omega.{arith}
-use borrow.Author.Rules.{rules}
 use lib.ListN.{length, drop}
 use Rattle.sequences.specs.Folds.{fold}
-use Rattle.sequences.proofs.FoldLaws.{fold_next, fold_end}
-use Rattle.channel_script.specs.Code.Playing.{after_letter, after_script}
+use Rattle.channel_script.specs.Code.Playing.{after_letter}
 use Rattle.channel_script.proofs.session.played.Given as goal
 
 abbrev pub invariant-loop-i : goal.invariant-loop-i

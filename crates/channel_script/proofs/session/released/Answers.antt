@@ -1,5 +1,4 @@
 -- `channel_script::session::released` meets its contract. Assumes nothing.
-use borrow.Author.Rules.{rules}
 use Rattle.channel_script.proofs.session.released.Goals as goal
 
 pub returns : goal.returns

@@ -1,5 +1,4 @@
 -- `channel_script::session::returned` meets its contract. Assumes nothing.
-use borrow.Author.Rules.{rules}
 use Rattle.channel_script.proofs.session.returned.Goals as goal
 
 pub returns : goal.returns

@@ -1,7 +1,6 @@
 -- `channel_script::set::in_bank` meets its contract, tracker by tracker. Assumes nothing.
 use borrow.Author.Tests.{eq-eqb, ne_eqb}
 use Rattle.channel_script.specs.Code.Setting.{bank_by}
-use borrow.Author.Rules.{rules}
 use Rattle.channel_script.proofs.set.in_bank.Goals as goal
 
 pub returns-then-letter-eq85 : goal.returns-then-letter-eq85

@@ -1,6 +1,5 @@
 -- `channel_script::set::in_channel` meets its contract. Assumes nothing.
 use Rattle.channel_script.specs.Code.Setting.{channel_by}
-use borrow.Author.Rules.{rules}
 use Rattle.channel_script.proofs.set.in_channel.Goals as goal
 
 pub returns : goal.returns

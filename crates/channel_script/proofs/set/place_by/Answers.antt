@@ -1,6 +1,5 @@
 -- `channel_script::set::place_by` meets its contract. Assumes nothing.
 use borrow.Author.Tests.{eq-eqb, ne_eqb}
-use borrow.Author.Rules.{rules}
 use Rattle.channel_script.proofs.set.place_by.Goals as goal
 
 pub returns-then-letter-eq75 : goal.returns-then-letter-eq75

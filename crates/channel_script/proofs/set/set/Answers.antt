@@ -1,6 +1,5 @@
 -- `channel_script::set::set` meets its contract, part by part. Assumes nothing.
 use Rattle.channel_script.specs.Code.Setting.{set_by}
-use borrow.Author.Rules.{rules}
 use Rattle.channel_script.proofs.set.set.Goals as goal
 
 pub returns : goal.returns

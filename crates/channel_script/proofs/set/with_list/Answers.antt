@@ -3,7 +3,6 @@ use mathlib.Core.Path.{sym, ap}
 use Prim.Native.Nat.{ℕ}
 use borrow.Author.Tests.{ne_eqb}
 use Rattle.channel_script.specs.Code.Setting.{lists_by}
-use borrow.Author.Rules.{rules}
 use Rattle.channel_script.proofs.set.with_list.Goals as goal
 
 pub returns-in-103 : goal.returns-in-103

@@ -1,6 +1,5 @@
 -- `channel_script::set::with_plan` meets its contract, part by part. Assumes nothing.
 use Rattle.channel_script.specs.Code.Setting.{plan_by}
-use borrow.Author.Rules.{rules}
 use Rattle.channel_script.proofs.set.with_plan.Goals as goal
 
 pub returns : goal.returns

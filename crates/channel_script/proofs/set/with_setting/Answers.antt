@@ -4,7 +4,6 @@ use Prim.Native.Nat.{ℕ}
 use borrow.Author.Tests.{ne_eqb}
 use lib.Ieee.{of_bits}
 use Rattle.channel_script.specs.Code.Setting.{settings_by}
-use borrow.Author.Rules.{rules}
 use Rattle.channel_script.proofs.set.with_setting.Goals as goal
 
 pub returns-in-114 : goal.returns-in-114

@@ -1,6 +1,4 @@
 -- `channel_script::set::with_tracker` meets its contract. Assumes nothing.
-use borrow.Author.Tests.{not-true, not-false}
-use borrow.Author.Rules.{rules}
 use Rattle.channel_script.proofs.set.with_tracker.Goals as goal
 
 pub returns-then-not-meant : goal.returns-then-not-meant

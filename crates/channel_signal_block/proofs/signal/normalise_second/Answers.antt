@@ -1,6 +1,5 @@
 -- By the number of frequencies. Assumes nothing.
 use Rattle.channel_signal_block.proofs.SignalSteps.{second_is, second_stays}
-use borrow.Author.Rules.{rules}
 use Rattle.channel_signal_block.proofs.signal.normalise_second.Goals as goal
 
 pub returns-then-two : goal.returns-then-two

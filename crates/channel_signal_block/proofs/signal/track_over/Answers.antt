@@ -1,6 +1,5 @@
 -- The steps from the started trackers on. Assumes nothing.
 use Rattle.channel_signal_block.proofs.SignalSteps.{tracked_over_lem}
-use borrow.Author.Rules.{rules}
 use Rattle.channel_signal_block.proofs.signal.track_over.Goals as goal
 
 pub returns : goal.returns

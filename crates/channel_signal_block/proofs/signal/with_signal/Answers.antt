@@ -1,6 +1,5 @@
 -- The whole block, from what its steps ensure. Assumes nothing.
 use Rattle.channel_signal_block.proofs.SignalSteps.{with_signal_is}
-use borrow.Author.Rules.{rules}
 use Rattle.channel_signal_block.proofs.signal.with_signal.Goals as goal
 
 pub returns : goal.returns

@@ -2,7 +2,6 @@
 use Rattle.bank_model.specs.Following.{on_stretch}
 use Rattle.channel_model.specs.Values.{moved, with_all}
 use Rattle.channel_signal_block.proofs.ShownCases.{bank_followed_lem, single_followed}
-use borrow.Author.Rules.{rules}
 use Rattle.channel_signal_block.proofs.track.follow.Goals as goal
 
 pub returns-then-setup : goal.returns-then-setup

@@ -1,7 +1,6 @@
 -- The quotient of the two whole numbers. Assumes nothing.
 use Rattle.channel_model.specs.Opening.{whole}
 use Rattle.channel_model.specs.Tracking.{interval}
-use borrow.Author.Rules.{rules}
 use Rattle.channel_signal_block.proofs.track.interval.Goals as goal
 
 pub returns : goal.returns

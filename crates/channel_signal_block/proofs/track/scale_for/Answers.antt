@@ -1,6 +1,5 @@
 -- The scale of `pll_tracker`. Assumes nothing.
 use Rattle.channel_model.specs.Tracking.{scale_of}
-use borrow.Author.Rules.{rules}
 use Rattle.channel_signal_block.proofs.track.scale_for.Goals as goal
 
 pub returns : goal.returns

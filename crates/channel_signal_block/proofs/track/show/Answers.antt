@@ -1,6 +1,5 @@
 -- By whether there is a bank. Assumes nothing.
 use Rattle.channel_signal_block.proofs.ShownCases.{shown_bank, shown_single}
-use borrow.Author.Rules.{rules}
 use Rattle.channel_signal_block.proofs.track.show.Goals as goal
 
 pub returns-then-c : goal.returns-then-c

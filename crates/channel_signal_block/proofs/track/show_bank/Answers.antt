@@ -1,7 +1,6 @@
 -- With a bank, by whether a tracker is in use. Assumes nothing.
 use Rattle.channel_model.specs.Values.{moved, with_electrons}
 use Rattle.channel_signal_block.proofs.ShownCases.{bank_used, bank_unused}
-use borrow.Author.Rules.{rules}
 use Rattle.channel_signal_block.proofs.track.show_bank.Goals as goal
 
 pub returns-then-b-lt3 : goal.returns-then-b-lt3

@@ -1,7 +1,6 @@
 -- Without a bank, by the lock mark. Assumes nothing.
 use Rattle.channel_model.specs.Values.{moved}
 use Rattle.channel_signal_block.proofs.ShownCases.{single_locked, single_unlocked}
-use borrow.Author.Rules.{rules}
 use Rattle.channel_signal_block.proofs.track.show_single.Goals as goal
 
 pub returns-then-t : goal.returns-then-t

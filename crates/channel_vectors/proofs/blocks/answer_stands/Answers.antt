@@ -1,6 +1,5 @@
 -- `answer_stands` meets its contract. Assumes nothing.
 use Rattle.channel_vectors.proofs.BlockCases.{left_ruled, left_listed}
-use borrow.Author.Rules.{rules}
 use Rattle.channel_vectors.proofs.blocks.answer_stands.Goals as goal
 
 pub returns-then-ruled : goal.returns-then-ruled

@@ -3,7 +3,6 @@ use lib.Seq.{length-take-le}
 use native.Mathlib.Omega.{arith}
 use mathlib.Core.Path.{sym}
 use Rattle.channel_vectors.proofs.BlockCases.{block_in_is}
-use borrow.Author.Rules.{rules}
 use Rattle.channel_vectors.proofs.blocks.block_in.Goals as goal
 
 pub slice_bounds-block-end-2 : goal.slice_bounds-block-end-2

@@ -4,7 +4,6 @@ use native.Mathlib.Omega.{arith}
 use lib.Seq.{length-take-le}
 use borrow.Author.Tests.{not-true, not-false}
 use Rattle.channel_vectors.proofs.BlockCases.{not_taken_lem, line_taken_lem}
-use borrow.Author.Rules.{rules}
 use Rattle.channel_vectors.proofs.blocks.block_line.Goals as goal
 
 pub returns-then-not-g : goal.returns-then-not-g

@@ -1,7 +1,6 @@
 -- `listed_stand` meets its contract. Assumes nothing.
 use mathlib.Core.Path.{refl}
 use Rattle.channel_vectors.proofs.BlockCases.{listed_stands}
-use borrow.Author.Rules.{rules}
 use Rattle.channel_vectors.proofs.blocks.listed_stand.Goals as goal
 
 pub returns : goal.returns

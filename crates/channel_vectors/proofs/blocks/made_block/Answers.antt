@@ -1,7 +1,6 @@
 -- `made_block` meets its contract. Assumes nothing.
 use native.Mathlib.Omega.{arith}
 use Rattle.channel_vectors.proofs.BlockCases.{made_block_is}
-use borrow.Author.Rules.{rules}
 use Rattle.channel_vectors.proofs.blocks.made_block.Goals as goal
 
 pub answer_stands-agrees-requires : goal.answer_stands-agrees-requires

@@ -1,6 +1,5 @@
 -- `ruled_stand` meets its contract. Assumes nothing.
 use Rattle.channel_vectors.proofs.BlockCases.{ruled_stands}
-use borrow.Author.Rules.{rules}
 use Rattle.channel_vectors.proofs.blocks.ruled_stand.Goals as goal
 
 pub returns : goal.returns

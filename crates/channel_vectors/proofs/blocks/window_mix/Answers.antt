@@ -2,7 +2,6 @@
 use lib.Seq.{length-take-le}
 use mathlib.Core.Path.{sym}
 use Rattle.channel_vectors.specs.Code.Blocks.{window_mix}
-use borrow.Author.Rules.{rules}
 use Rattle.channel_vectors.proofs.blocks.window_mix.Goals as goal
 
 pub slice_bounds-mix_all-end : goal.slice_bounds-mix_all-end

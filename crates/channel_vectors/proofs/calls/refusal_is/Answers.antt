@@ -1,7 +1,6 @@
 -- `refusal_is` meets its contract. Assumes nothing.
 use mathlib.Core.Path.{refl}
 use Rattle.channel_vectors.proofs.RestLaws.{rest_is}
-use borrow.Author.Rules.{rules}
 use Rattle.channel_vectors.proofs.calls.refusal_is.Goals as goal
 
 pub returns : goal.returns

@@ -1,6 +1,5 @@
 -- `replay_assign` meets its contract. Assumes nothing.
 use Rattle.channel_vectors.proofs.CallCases.{assign_line_lem}
-use borrow.Author.Rules.{rules}
 use Rattle.channel_vectors.proofs.calls.replay_assign.Goals as goal
 
 pub returns : goal.returns

@@ -2,7 +2,6 @@
 use native.Mathlib.Omega.{arith}
 use Rattle.channel_vectors.proofs.CallCases.{given_small}
 use Rattle.channel_vectors.proofs.CallCases.{build_line_lem}
-use borrow.Author.Rules.{rules}
 use Rattle.channel_vectors.proofs.calls.replay_build.Goals as goal
 
 pub overflow_add-channel_length : goal.overflow_add-channel_length

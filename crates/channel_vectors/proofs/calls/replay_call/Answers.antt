@@ -3,7 +3,6 @@ use mathlib.Core.Path.{sym, ap, ◌∙◌}
 use Prim.Native.Nat.{ℕ}
 use Rattle.channel_vectors.specs.Code.Calls.{call_line}
 use Rattle.channel_vectors.proofs.CallCases.{unknown}
-use borrow.Author.Rules.{rules}
 use Rattle.channel_vectors.proofs.calls.replay_call.Goals as goal
 
 pub returns-in-3 : goal.returns-in-3

@@ -1,6 +1,5 @@
 -- `replay_figures` meets its contract. Assumes nothing.
 use Rattle.channel_vectors.proofs.CallCases.{figures_line_lem}
-use borrow.Author.Rules.{rules}
 use Rattle.channel_vectors.proofs.calls.replay_figures.Goals as goal
 
 pub returns : goal.returns

@@ -1,6 +1,5 @@
 -- `replay_open` meets its contract. Assumes nothing.
 use Rattle.channel_vectors.proofs.CallCases.{open_line_lem}
-use borrow.Author.Rules.{rules}
 use Rattle.channel_vectors.proofs.calls.replay_open.Goals as goal
 
 pub returns : goal.returns

@@ -1,6 +1,5 @@
 -- `replay_release` meets its contract. Assumes nothing.
 use Rattle.channel_vectors.proofs.CallCases.{release_line_lem}
-use borrow.Author.Rules.{rules}
 use Rattle.channel_vectors.proofs.calls.replay_release.Goals as goal
 
 pub returns : goal.returns

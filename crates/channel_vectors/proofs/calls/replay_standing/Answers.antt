@@ -3,7 +3,6 @@ use mathlib.Core.Path.{◌≡◌, ◌∙◌}
 use lib.ListN.{length}
 use Rattle.channel_vectors.proofs.CallCases.{with_bank_lem, without_bank, standing_line_lem}
 use Rattle.channel_words.specs.Code.Standing.{standing_words}
-use borrow.Author.Rules.{rules}
 use Rattle.channel_vectors.proofs.calls.replay_standing.Goals.{then-c, else-c}
 use Rattle.channel_vectors.proofs.calls.replay_standing.Goals as goal
 

@@ -1,6 +1,5 @@
 -- `give` meets its contract. Assumes nothing.
 use Rattle.channel_vectors.proofs.ListCases.{given_ruled, given_listed}
-use borrow.Author.Rules.{rules}
 use Rattle.channel_vectors.proofs.lists.give.Goals as goal
 
 pub returns-then-ruled : goal.returns-then-ruled

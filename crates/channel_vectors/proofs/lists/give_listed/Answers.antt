@@ -3,7 +3,6 @@ use mathlib.Core.Path.{sym}
 use native.Mathlib.Omega.{arith}
 use lib.Seq.{length-take-le}
 use Rattle.channel_vectors.proofs.ListCases.{none_long, first_long, second-long, listed-is}
-use borrow.Author.Rules.{rules}
 use Rattle.channel_vectors.proofs.lists.give_listed.Goals as goal
 
 pub returns-then-n-gt8200 : goal.returns-then-n-gt8200

@@ -4,7 +4,6 @@ use mathlib.Core.Path.{sym}
 use native.Mathlib.Omega.{arith}
 use lib.Seq.{length-take-le}
 use Rattle.channel_vectors.proofs.ListCases.{none_long, first_over, second-over, ruled-is}
-use borrow.Author.Rules.{rules}
 use Rattle.channel_vectors.proofs.lists.give_ruled.Goals as goal
 
 pub returns-then-n-gt4096 : goal.returns-then-n-gt4096

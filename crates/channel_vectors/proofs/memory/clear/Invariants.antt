@@ -1,12 +1,7 @@
 -- `clear` meets its contract. Assumes nothing.
-use lib.Ieee.{of_bits}
-use Rattle.channel_vectors.proofs.MemoryLaws.{clear_next, clear_end}
-use Rattle.channel_vectors.specs.Code.Memory.{cleared}
-use borrow.Author.Rules.{rules}
 use mathlib.Core.Path.{◌≡◌}
 use Prim.Native.Nat.{◌-◌, ◌≤◌}
-use native.Mathlib.Omega.{arith}
-use lib.ListN.{length, take, replicate, length-set}
+use lib.ListN.{length, take, replicate}
 use Rattle.ieee754.specs.Binary64.{zero}
 use Rattle.channel_vectors.proofs.memory.clear.Given as goal
 

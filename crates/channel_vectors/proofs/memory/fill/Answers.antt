@@ -2,13 +2,10 @@
 use Rattle.vectors.specs.Code.Lines.{from_place}
 use Rattle.vectors.proofs.LineLaws.{fill_next, fill_end}
 use Rattle.channel_vectors.specs.Code.Memory.{sixty_fourths, filled}
-use borrow.Author.Rules.{rules}
-use mathlib.Core.Path.{◌≡◌, refl, sym, ap, ◌∙◌}
-use Prim.Native.Nat.{◌-◌, ◌≤◌}
+use mathlib.Core.Path.{refl, sym, ap, ◌∙◌}
 use native.Mathlib.Nat.{zero-add}
 use native.Mathlib.Omega.{arith}
-use lib.ListN.{length, take, length-set}
-use Rattle.ieee754.specs.Binary64.{zero}
+use lib.ListN.{length-set}
 use Rattle.channel_vectors.proofs.memory.fill.Goals as goal
 
 pub loop-i-init : goal.loop-i-init

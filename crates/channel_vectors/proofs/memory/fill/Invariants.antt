@@ -1,14 +1,9 @@
 -- `fill` meets its contract. Assumes nothing.
 use Rattle.vectors.specs.Code.Lines.{from_place}
-use Rattle.vectors.proofs.LineLaws.{fill_next, fill_end}
-use Rattle.channel_vectors.specs.Code.Memory.{sixty_fourths, filled}
-use borrow.Author.Rules.{rules}
-use mathlib.Core.Path.{◌≡◌, refl, sym, ap, ◌∙◌}
+use Rattle.channel_vectors.specs.Code.Memory.{sixty_fourths}
+use mathlib.Core.Path.{◌≡◌}
 use Prim.Native.Nat.{◌-◌, ◌≤◌}
-use native.Mathlib.Nat.{zero-add}
-use native.Mathlib.Omega.{arith}
-use lib.ListN.{length, take, length-set}
-use Rattle.ieee754.specs.Binary64.{zero}
+use lib.ListN.{length, take}
 use Rattle.channel_vectors.proofs.memory.fill.Given as goal
 
 abbrev pub invariant-loop-i : goal.invariant-loop-i

@@ -3,7 +3,6 @@ use mathlib.Core.Path.{refl, sym}
 use native.Mathlib.Omega.{arith}
 use lib.Seq.{set_out}
 use Rattle.channel_vectors.specs.Code.Memory.{poked}
-use borrow.Author.Rules.{rules}
 use Rattle.channel_vectors.proofs.memory.poke.Goals as goal
 
 pub returns-then-place-m : goal.returns-then-place-m

@@ -1,6 +1,5 @@
 -- `set_memory` meets its contract. Assumes nothing.
 use Rattle.channel_vectors.proofs.LineCases.{zeros, by_start, by_place}
-use borrow.Author.Rules.{rules}
 use Rattle.channel_vectors.proofs.memory.set_memory.Goals as goal
 
 pub returns-in-0 : goal.returns-in-0

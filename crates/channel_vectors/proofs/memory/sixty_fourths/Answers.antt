@@ -2,7 +2,6 @@
 use lib.Ieee.{of_bits, of_int}
 use Rattle.channel_model.specs.Opening.{whole}
 use Rattle.channel_vectors.proofs.MemoryLaws.{sixty_fourths_are}
-use borrow.Author.Rules.{rules}
 use Rattle.channel_vectors.proofs.memory.sixty_fourths.Goals as goal
 
 pub returns : goal.returns

@@ -1,6 +1,5 @@
 -- `answer_words` meets its contract. Assumes nothing.
 use Rattle.channel_words.proofs.AnswerCases.{answer_is}
-use borrow.Author.Rules.{rules}
 use Rattle.channel_words.proofs.answers.answer_words.Goals as goal
 
 pub returns : goal.returns

@@ -1,8 +1,5 @@
 -- `carriers_in` meets its contract. Assumes nothing.
 -- `carriers_in` meets its contract. Assumes nothing.
-use borrow.Author.Rules.{rules}
-use Rattle.channel_words.proofs.arguments.carriers_in.Statement.{statement}
-use Rattle.channel_words.proofs.arguments.carriers_in.Tie as tie
 use Rattle.channel_words.proofs.ArgumentCases.{carriers_are}
 use Rattle.channel_words.proofs.arguments.carriers_in.Goals as goal
 

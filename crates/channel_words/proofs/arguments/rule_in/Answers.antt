@@ -1,8 +1,5 @@
 -- `rule_in` meets its contract. Assumes nothing.
 -- `rule_in` meets its contract. Assumes nothing.
-use borrow.Author.Rules.{rules}
-use Rattle.channel_words.proofs.arguments.rule_in.Statement.{statement}
-use Rattle.channel_words.proofs.arguments.rule_in.Tie as tie
 use Rattle.channel_words.proofs.ArgumentCases.{rule_is}
 use Rattle.channel_words.proofs.arguments.rule_in.Goals as goal
 

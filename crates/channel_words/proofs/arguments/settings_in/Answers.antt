@@ -1,8 +1,5 @@
 -- `settings_in` meets its contract. Assumes nothing.
 -- `settings_in` meets its contract. Assumes nothing.
-use borrow.Author.Rules.{rules}
-use Rattle.channel_words.proofs.arguments.settings_in.Statement.{statement}
-use Rattle.channel_words.proofs.arguments.settings_in.Tie as tie
 use Rattle.channel_words.proofs.ArgumentCases.{settings_are}
 use Rattle.channel_words.proofs.arguments.settings_in.Goals as goal
 

@@ -1,6 +1,5 @@
 -- `bank_in` meets its contract. Assumes nothing.
 use Rattle.channel_words.proofs.BuiltCases.{bank_is}
-use borrow.Author.Rules.{rules}
 use Rattle.channel_words.proofs.built.bank_in.Goals as goal
 
 pub returns : goal.returns

@@ -1,7 +1,6 @@
 -- `behind_tracker` meets its contract. Assumes nothing.
 use native.Mathlib.Omega.{arith}
 use Rattle.channel_words.proofs.BuiltCases.{ten_small, behind_is}
-use borrow.Author.Rules.{rules}
 use Rattle.channel_words.proofs.built.behind_tracker.Goals as goal
 
 pub overflow_add-ten : goal.overflow_add-ten

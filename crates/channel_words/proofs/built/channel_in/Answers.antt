@@ -1,6 +1,5 @@
 -- `channel_in` meets its contract. Assumes nothing.
 use Rattle.channel_words.proofs.BuiltCases.{channel_is}
-use borrow.Author.Rules.{rules}
 use Rattle.channel_words.proofs.built.channel_in.Goals as goal
 
 pub returns : goal.returns

@@ -3,7 +3,6 @@ use mathlib.Core.Path.{ap, ◌∙◌}
 use native.Mathlib.Omega.{arith}
 use Rattle.channel_words.proofs.BuiltCases.{ten_small, length_is}
 use Rattle.channel_words.specs.Code.Built.{given_length}
-use borrow.Author.Rules.{rules}
 use Rattle.channel_words.proofs.built.channel_length.Goals as goal
 
 pub overflow_add-result : goal.overflow_add-result

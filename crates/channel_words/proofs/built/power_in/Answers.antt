@@ -1,8 +1,5 @@
 -- `power_in` meets its contract. Assumes nothing.
 -- `power_in` meets its contract. Assumes nothing.
-use borrow.Author.Rules.{rules}
-use Rattle.channel_words.proofs.built.power_in.Statement.{statement}
-use Rattle.channel_words.proofs.built.power_in.Tie as tie
 use Rattle.channel_words.proofs.ArgumentCases.{power_is}
 use Rattle.channel_words.proofs.built.power_in.Goals as goal
 

@@ -1,8 +1,5 @@
 -- `reading_in` meets its contract. Assumes nothing.
 -- `reading_in` meets its contract. Assumes nothing.
-use borrow.Author.Rules.{rules}
-use Rattle.channel_words.proofs.built.reading_in.Statement.{statement}
-use Rattle.channel_words.proofs.built.reading_in.Tie as tie
 use Rattle.channel_words.proofs.ArgumentCases.{reading_is}
 use Rattle.channel_words.proofs.built.reading_in.Goals as goal
 

@@ -1,8 +1,5 @@
 -- `setup_in` meets its contract. Assumes nothing.
 -- `setup_in` meets its contract. Assumes nothing.
-use borrow.Author.Rules.{rules}
-use Rattle.channel_words.proofs.built.setup_in.Statement.{statement}
-use Rattle.channel_words.proofs.built.setup_in.Tie as tie
 use Rattle.channel_words.proofs.ArgumentCases.{setup_is}
 use Rattle.channel_words.proofs.built.setup_in.Goals as goal
 

@@ -3,7 +3,6 @@ use mathlib.Core.Path.{◌∙◌}
 use Rattle.channel_words.specs.Code.Built.{given_status}
 use mathlib.Core.Path.{sym}
 use Rattle.sequences.proofs.Choices.{cond_yes, cond_no}
-use borrow.Author.Rules.{rules}
 use Rattle.channel_words.proofs.built.status_in.Goals as goal
 
 pub returns-then-mark : goal.returns-then-mark

@@ -1,6 +1,5 @@
 -- `tracker_in` meets its contract. Assumes nothing.
 use Rattle.channel_words.proofs.BuiltCases.{tracker_is}
-use borrow.Author.Rules.{rules}
 use Rattle.channel_words.proofs.built.tracker_in.Goals as goal
 
 pub returns : goal.returns

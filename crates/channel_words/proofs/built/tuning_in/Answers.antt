@@ -1,6 +1,5 @@
 -- `tuning_in` meets its contract. Assumes nothing.
 use Rattle.channel_words.proofs.BuiltCases.{tuning_is}
-use borrow.Author.Rules.{rules}
 use Rattle.channel_words.proofs.built.tuning_in.Goals as goal
 
 pub returns : goal.returns

@@ -4,7 +4,6 @@ use Prim.Native.Nat.{ℕ, ◌+◌, ◌*◌, ◌/◌, ◌%◌, ◌^◌}
 use native.Mathlib.Nat.{mod-add-div, add-mul-mod_self_left}
 use native.Mathlib.Omega.{arith}
 use Rattle.channel_words.specs.Code.Rules.{next_noise}
-use borrow.Author.Rules.{rules}
 use Rattle.channel_words.proofs.rules.next_noise.Goals as goal
 
 -- a number cut before a product is the same after it, modulo m

@@ -6,7 +6,6 @@ use Rattle.channel_words.specs.declared.rules.Rule.{Rule}
 use Rattle.channel_words.specs.declared.rules.Turn.{Turn}
 use mathlib.Core.Path.{◌∙◌, ap}
 use Rattle.channel_words.specs.Code.Rules.{next_noise, next_turn}
-use borrow.Author.Rules.{rules}
 use Rattle.channel_words.proofs.rules.next_turn.Goals as goal
 
 turn_is : (r : Rule) (t : Turn) {x y : ℕ} → x ≡ next_noise t.x → y ≡ next_noise x

@@ -4,7 +4,6 @@ use lib.Ieee.{Float, of_bits, of_int}
 use Rattle.ieee754.specs.Binary64.{minus, over, half}
 use Rattle.channel_model.specs.Opening.{whole}
 use Rattle.channel_words.specs.Code.Rules.{noise_of}
-use borrow.Author.Rules.{rules}
 use Rattle.channel_words.proofs.rules.noise_of.Goals as goal
 
 pub returns : goal.returns

@@ -1,6 +1,5 @@
 -- `noisy_part` meets its contract. Assumes nothing.
 use Rattle.channel_words.specs.Code.Rules.{noisy}
-use borrow.Author.Rules.{rules}
 use Rattle.channel_words.proofs.rules.noisy_part.Goals as goal
 
 pub returns : goal.returns

@@ -1,6 +1,5 @@
 -- `bank_stands` meets its contract. Assumes nothing.
 use Rattle.channel_words.proofs.StandingCases.{bank_stands_are}
-use borrow.Author.Rules.{rules}
 use Rattle.channel_words.proofs.standing.bank_stands.Goals as goal
 
 pub returns : goal.returns

@@ -1,6 +1,5 @@
 -- `carrier_words` meets its contract. Assumes nothing.
 use Rattle.channel_words.specs.Code.Standing.{carrier_words}
-use borrow.Author.Rules.{rules}
 use Rattle.channel_words.proofs.standing.carrier_words.Goals as goal
 
 pub returns : goal.returns

@@ -1,6 +1,5 @@
 -- `channel_stands` meets its contract. Assumes nothing.
 use Rattle.channel_words.proofs.StandingCases.{with_bank_lem, without_bank}
-use borrow.Author.Rules.{rules}
 use Rattle.channel_words.proofs.standing.channel_stands.Goals as goal
 
 pub returns-then-c : goal.returns-then-c

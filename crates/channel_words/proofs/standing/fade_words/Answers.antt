@@ -1,6 +1,5 @@
 -- `fade_words` meets its contract. Assumes nothing.
 use Rattle.channel_words.proofs.StandingCases.{fade_words_are}
-use borrow.Author.Rules.{rules}
 use Rattle.channel_words.proofs.standing.fade_words.Goals as goal
 
 pub returns : goal.returns

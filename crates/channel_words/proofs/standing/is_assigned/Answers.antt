@@ -1,6 +1,5 @@
 -- `is_assigned` meets its contract. Assumes nothing.
 use Rattle.channel_model.specs.Assigning.{idle}
-use borrow.Author.Rules.{rules}
 use Rattle.channel_words.proofs.standing.is_assigned.Goals as goal
 
 pub returns-in-Idle : goal.returns-in-Idle

@@ -1,6 +1,5 @@
 -- `mark_words` meets its contract. Assumes nothing.
 use Rattle.channel_words.proofs.StandingCases.{mark_words_are}
-use borrow.Author.Rules.{rules}
 use Rattle.channel_words.proofs.standing.mark_words.Goals as goal
 
 pub returns : goal.returns

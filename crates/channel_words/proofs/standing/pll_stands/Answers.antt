@@ -1,6 +1,5 @@
 -- `pll_stands` meets its contract. Assumes nothing.
 use Rattle.channel_words.proofs.StandingCases.{pll_stands_are}
-use borrow.Author.Rules.{rules}
 use Rattle.channel_words.proofs.standing.pll_stands.Goals as goal
 
 pub returns : goal.returns

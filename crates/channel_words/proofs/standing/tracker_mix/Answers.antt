@@ -1,6 +1,5 @@
 -- `tracker_mix` meets its contract. Assumes nothing.
 use Rattle.channel_words.proofs.StandingCases.{mix_is}
-use borrow.Author.Rules.{rules}
 use Rattle.channel_words.proofs.standing.tracker_mix.Goals as goal
 
 pub returns : goal.returns

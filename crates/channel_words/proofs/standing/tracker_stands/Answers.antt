@@ -1,6 +1,5 @@
 -- `tracker_stands` meets its contract. Assumes nothing.
 use Rattle.channel_words.proofs.StandingCases.{stands_of}
-use borrow.Author.Rules.{rules}
 use Rattle.channel_words.proofs.standing.tracker_stands.Goals as goal
 
 pub returns : goal.returns

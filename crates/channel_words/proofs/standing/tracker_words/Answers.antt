@@ -1,6 +1,5 @@
 -- `tracker_words` meets its contract. Assumes nothing.
 use Rattle.channel_words.proofs.StandingCases.{tracker_words_are}
-use borrow.Author.Rules.{rules}
 use Rattle.channel_words.proofs.standing.tracker_words.Goals as goal
 
 pub returns : goal.returns

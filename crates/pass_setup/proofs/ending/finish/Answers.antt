@@ -1,6 +1,5 @@
 -- `finish`, by where in the text the input ends.
 use Rattle.pass_setup.proofs.LineCases.{printed_as, still_printed, ends_names, ends_values, ends_block_names, ends_blocks, ends_cut, ends_stopped}
-use borrow.Author.Rules.{rules}
 use Rattle.pass_setup.proofs.ending.finish.Goals as goal
 
 pub returns-then-left-eq0 : goal.returns-then-left-eq0

@@ -1,7 +1,6 @@
 -- `is_stopped`, by the stage.
 use mathlib.Core.Path.{ap, sym}
 use Rattle.pass_setup.specs.Code.Buffers.{is_stopped}
-use borrow.Author.Rules.{rules}
 use Rattle.pass_setup.proofs.ending.is_stopped.Goals as goal
 
 pub returns-in-Names : goal.returns-in-Names

@@ -1,6 +1,5 @@
 -- `count`, below the greatest number and at it.
 use Rattle.pass_setup.proofs.LineCases.{counted_more, counted_last}
-use borrow.Author.Rules.{rules}
 use Rattle.pass_setup.proofs.pass.count.Goals as goal
 
 pub returns-then-n-lt18446744073709551615 : goal.returns-then-n-lt18446744073709551615

@@ -1,5 +1,5 @@
 -- `new_pass`: the channel is that of a refused open.
-use mathlib.Core.Path.{ap, ◌∙◌}
+use mathlib.Core.Path.{ap}
 use lib.Ieee.{of_bits}
 use Rattle.channel_model.specs.declared.Returned.{Returned}
 use Rattle.channel_model.specs.Refusals.{first_cause}
@@ -7,7 +7,6 @@ use Rattle.channel_model.specs.Opening.{opened, open_refusal, bad_rate}
 use Rattle.pass_setup.specs.declared.pass.Stage.TheVariants.{Names}
 use Rattle.pass_setup.specs.declared.pass.Pass.{Pass}
 use Rattle.pass_setup.specs.Judging.{new_pass}
-use borrow.Author.Rules.{rules}
 use Rattle.pass_setup.proofs.pass.new_pass.Goals as goal
 
 pub returns : goal.returns

@@ -1,6 +1,5 @@
 -- `refuse` counts the line, writes its refusal and ends the run.
 use Rattle.pass_setup.proofs.LineCases.{refused_printed}
-use borrow.Author.Rules.{rules}
 use Rattle.pass_setup.proofs.pass.refuse.Goals as goal
 
 pub returns : goal.returns

@@ -1,6 +1,5 @@
 -- `take` counts the line and goes to the next stage.
 use Rattle.pass_setup.specs.Judging.{line_taken}
-use borrow.Author.Rules.{rules}
 use Rattle.pass_setup.proofs.pass.take.Goals as goal
 
 pub returns : goal.returns

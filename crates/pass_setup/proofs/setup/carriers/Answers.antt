@@ -3,7 +3,6 @@ use lib.Ieee.{of_bits}
 use Rattle.ieee754.specs.Binary64 as float
 use Rattle.channel_model.specs.Opening.{whole}
 use Rattle.pass_setup.specs.Opening.{carriers_of}
-use borrow.Author.Rules.{rules}
 use Rattle.pass_setup.proofs.setup.carriers.Goals as goal
 
 pub returns : goal.returns

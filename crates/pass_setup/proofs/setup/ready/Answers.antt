@@ -1,7 +1,6 @@
 -- `ready`: assign comes after an accepted open.
 use Rattle.pass_reader.specs.Code.Answers.{values_of}
 use Rattle.pass_setup.proofs.LineCases.{not_opened, opened_assigned}
-use borrow.Author.Rules.{rules}
 use Rattle.pass_setup.proofs.setup.ready.Goals as goal
 
 pub returns-then-o-ne0 : goal.returns-then-o-ne0

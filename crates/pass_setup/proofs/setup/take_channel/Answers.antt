@@ -2,7 +2,6 @@
 use Rattle.pass_setup.specs.declared.pass.Stage.TheVariants.{BlockNames}
 use Rattle.pass_setup.specs.Judging.{line_taken}
 use Rattle.pass_setup.proofs.LineCases.{printed_as, taken_printed, or_refused, or_judged}
-use borrow.Author.Rules.{rules}
 use Rattle.pass_setup.proofs.setup.take_channel.Goals as goal
 
 pub returns-then-o-ne0 : goal.returns-then-o-ne0

@@ -1,7 +1,6 @@
 -- `take_names`, by the refusal number.
 use Rattle.pass_setup.specs.Judging.{line_taken}
 use Rattle.pass_setup.proofs.LineCases.{printed_as, taken_printed, or_refused, or_judged}
-use borrow.Author.Rules.{rules}
 use Rattle.pass_setup.proofs.setup.take_names.Goals as goal
 
 pub returns-then-refusal-ne0 : goal.returns-then-refusal-ne0

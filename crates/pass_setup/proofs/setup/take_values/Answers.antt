@@ -1,6 +1,5 @@
 -- `take_values`: the form before open and assign.
 use Rattle.pass_setup.proofs.LineCases.{printed_as, values_outside, values_read}
-use borrow.Author.Rules.{rules}
 use Rattle.pass_setup.proofs.setup.take_values.Goals as goal
 
 pub returns-in_default : goal.returns-in_default
