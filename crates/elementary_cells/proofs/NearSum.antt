@@ -83,7 +83,7 @@ exact_side L W e b P Q a c l s h k = bound_side W L e b a c P Q l s (turned h) k
 more : (L b P Q : ℕ) → 64 * P ≤ 64 * Q + b * L → 64 * P ≤ 64 * Q + (b + 1) * L
 more L b P Q h = omega arith
 
--- ---- an f64 v near the short polynomial's value X / W at x, is near the sum's value at n / d. Names as in `near-short`; E is d.
+-- ---- an f64 v near the short polynomial's value X / W at x, is near the sum's value at n / d. Names as in `near_short`; E is d.
 module _ (c r s k n d : ℕ) (x : Signed) (cp : 0 < c) (rp : 0 < r) (dp : 0 < d) (is : c * (r * n) + x.minus ≡ k * (r * d) + x.plus) (small : x.plus + x.minus ≤ s * d)
     (N f w : ℕ) (t b : List Signed) (wp : 0 < w) (fp : 0 < f) (long : length (scale c (suc N) t) ≤ suc N) where
   abbrev l : ℕ

@@ -1,4 +1,4 @@
--- The definitions of specs/SquareRoot.antt: `rootDigits (size n) n` is the whole part of √n, `roundRoot f n` is what a nearest whole root of the leading digits gives, and no value of the format is nearer to √n. Assumes nothing.
+-- The definitions of specs/SquareRoot.antt: `root_digits (size n) n` is the whole part of √n, `round_root f n` is what a nearest whole root of the leading digits gives, and no value of the format is nearer to √n. Assumes nothing.
 use Rattle.std.proofs.Common.{◌≡◌, ℕ, zero, suc, ◌+◌, ◌-◌, ◌*◌, ◌/◌, ◌^◌, ◌<◌, ◌≤◌, Bool, true, false, cond, not, T, leb, ◌⊎◌, sym, refl, ap, ◌∙◌, inl, inr, zero-le, le_trans, le_of_eq, lt_of_lt_of_le, le_of_suc-le-suc, lt_of_le_of_lt, mul-le-mul_right, mul_assoc, div-lt_iff_lt-mul, add-mul, mul-le-mul, le_antisymm, lt_of_mul-lt-mul_right, mul-le-mul_left, mul-lt-mul_of_pos_right, mul-pos, lt_of_not-le, mul-add, not-le_of_lt, div-mul-le_self, le_of_mul-le-mul_right, arith, leb→le, pow_pos, pow_mono, pow-add}
 use Prim.Native.Nat.{compare, Ordering}
 use native.Mathlib.Nat.{mul-mul-mul_comm, pow-succ'}

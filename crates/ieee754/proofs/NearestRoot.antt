@@ -1,5 +1,5 @@
 -- The theorem of the square root, for any format: no other value of the format is as near to the root as `sqrt` is. It is the last
--- declaration of this file, `sqrt-is-nearest`. Assumes nothing.
+-- declaration of this file, `sqrt_is_nearest`. Assumes nothing.
 use Rattle.std.proofs.Common.{◌≡◌, ℕ, zero, suc, ◌+◌, ◌-◌, ◌*◌, ◌/◌, ◌%◌, ◌^◌, ◌<◌, ◌≤◌, false, sym, refl, ap, ◌∙◌, subst, inl, inr, le_trans, le_of_eq, lt_of_lt_of_le, le-add_right, lt_of_le_of_lt, le_of_lt, lt_irrefl, mul-le-mul_right, mod-lt, mul_assoc, div-lt_iff_lt-mul, add-mul, mul-le-mul, lt_of_mul-lt-mul_right, eq-or-lt_of_le, mul-le-mul_left, mul-lt-mul_of_pos_right, mul-pos, mul-one, arith, pow_pos, pow_mono, pow-add, shl_lt}
 use lib.Ieee.{Float, Format, binary32, binary64, prec, emax, low, hid, ones, size, of_bits}
 use lib.Ieee.Digits.{size-lt, size-le, size_reaches}

@@ -1,4 +1,4 @@
--- `remEuclid` of a finite number by a positive one of the format is not below 0. For any format. Assumes nothing.
+-- `rem_euclid` of a finite number by a positive one of the format is not below 0. For any format. Assumes nothing.
 use Rattle.std.proofs.Common.{◌≡◌, ℕ, ◌*◌, ◌%◌, ◌<◌, Bool, true, false, cond, not, T, ℤ, pos, sym, refl, subst, le_of_eq, le_of_lt, mul-le-mul_right, mod-lt, mul_assoc, mul-pos, ltb→lt}
 use native.Mathlib.Nat as nat
 use lib.Ieee.{Float, nan, inf, fin, Format, up, down, neg, lt, le, eq, is_nan, round, add, rem, fits}

@@ -1,5 +1,5 @@
 // Rust's `rem_euclid` of an f64, and its `%`, in whole numbers: `%` itself would be compiled to a call of the C library's `fmod`, which a program that was linked
-// against a newer library does not find.
+// against a newer C library does not find on a machine with an older one.
 ghost use Rattle.std.specs.Prelude.{◌≡◌, ◌*◌, ◌^◌, ◌%◌, ◌<◌, ◌≤◌, T};
 ghost use Rattle.std.specs.Float.{binary64};
 ghost use Rattle.std.specs.Float.Ieee.{rem};

@@ -5,13 +5,13 @@ use mathlib.Core.Bool.{Bool, true, false}
 use mathlib.Core.List.{List, [], ◌∷◌, ◌++◌, append_assoc}
 use Prim.Native.Nat.{ℕ, ◌+◌, ◌-◌, ◌≤◌, ◌<◌}
 use native.Mathlib.Omega.{arith}
-use lib.Dec.{leb, ltb}
+use lib.Dec.{ltb}
 use lib.ListN.{length, take, drop, length-drop}
 use lib.Seq.{length-take-le, drop-drop}
 use lib.Ieee.{Float}
 use borrow.Author.Tests.{leb-true, ltb-true, ltb-false}
 use Rattle.sequences.specs.Folds.{fold}
-use Rattle.pass_writer.specs.Code.Buffers.{longest, written}
+use Rattle.pass_writer.specs.Code.Buffers.{longest}
 use Rattle.pass_writer.proofs.WrittenLaws.{written_behind, written_length, written_within}
 use Rattle.pass_reader.specs.Bytes.{newline}
 use Rattle.pass_reader.specs.Code.Places.{place}
@@ -19,7 +19,7 @@ use Rattle.pass_stream.specs.Stream.{lines, rest}
 use Rattle.pass_stream.specs.Code.Carrying.{line_length}
 use Rattle.pass_stream.proofs.StreamLaws.{first_line, first_line_rest, no_line, no_line_rest, line_within, rest_chunks, fold_chunks}
 use Rattle.pass_setup.specs.declared.pass.Pass.{Pass}
-use Rattle.pass_setup.specs.Judging.{Judgement, judged}
+use Rattle.pass_setup.specs.Judging.{judged}
 use Rattle.pass_setup.specs.Listing.{Run, further, input_ended, list_after}
 use Rattle.pass_setup.specs.declared.pass.Judged.{Judged}
 use Rattle.pass_setup.specs.declared.pass.Ran.{Ran}

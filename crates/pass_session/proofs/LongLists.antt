@@ -17,7 +17,7 @@ use Rattle.pass_reader.specs.Lines.{outside, names, block_names, values_line, fl
 use Rattle.pass_reader.proofs.LongLines.{long_differs, long_values, long_block}
 use Rattle.pass_stream.specs.Stream.{lines, rest}
 use Rattle.pass_stream.specs.Code.Carrying.{line_length}
-use Rattle.pass_stream.proofs.StreamLaws.{first_line, no_line, no_line_rest, line_within}
+use Rattle.pass_stream.proofs.StreamLaws.{first_line, no_line, no_line_rest}
 use Rattle.pass_setup.specs.declared.pass.Stage.{Stage}
 use Rattle.pass_setup.specs.declared.pass.Stage.TheVariants.{Names, Values, BlockNames, Blocks, Stopped}
 use Rattle.pass_setup.specs.declared.pass.Pass.{Pass}

@@ -1,14 +1,12 @@
 -- Laws of the loop over the lines of a chunk.
 use mathlib.Core.Path.{◌≡◌, refl, ap, sym, ◌∙◌}
 use mathlib.Core.Bool.{Bool, true, false}
-use mathlib.Core.List.{List, [], ◌∷◌, ◌++◌}
-use Prim.Native.Nat.{ℕ, ◌+◌, ◌-◌, ◌≤◌, ◌<◌}
+use mathlib.Core.List.{List, [], ◌∷◌}
+use Prim.Native.Nat.{ℕ, ◌+◌, ◌-◌, ◌≤◌}
 use native.Mathlib.Omega.{arith}
-use lib.Dec.{leb}
 use lib.ListN.{length, take, drop, length-drop}
 use lib.Seq.{length-take-le, drop-drop}
 use lib.Ieee.{Float}
-use Rattle.pass_writer.specs.Code.Buffers.{longest}
 use Rattle.pass_reader.proofs.ByteLaws.{tail_is}
 use Rattle.pass_stream.specs.Stream.{lines}
 use Rattle.pass_stream.specs.Code.Carrying.{line_length}

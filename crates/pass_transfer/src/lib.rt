@@ -1,6 +1,6 @@
 // One write or one read at a time, and where the stream of a pass text stands between them (the scope, "The pass text and its list"): what is made of the list is
 // written, and more of the text is read. Where it is known which bytes a reader has left and a writer holds, these very bytes are read and written. Of the system's
-// files that is not known, and no contract can say it; it is seen in `read_once`, `write_once` and `write_waiting`, two lines each.
+// files that is not known, and no contract can say it; it is seen in `read_once`, `write_once` and `write_waiting`, three lines at most.
 #![tactic(auto)]
 
 ghost use Rattle.std.specs.Prelude.{cond, List, ◌≡◌, ℕ, ◌+◌, ◌-◌, ◌≤◌, ◌<◌, length, take, drop, IfOk, Option};

@@ -25,10 +25,9 @@ use Rattle.pass_setup.specs.Code.Steps.{closed}
 use Rattle.pass_setup.specs.Code.Buffers.{Printed, printed, as_printed, ChunkRun, past, line_run, run_has_room, only_if, lines_run, as_chunk_run, is_stopped}
 use Rattle.pass_session.proofs.ListLaws.{waiting, lines_after, line_not_empty, line_used, chunk_listed, write_listed, end_listed, end_waits}
 use Rattle.pass_session.proofs.LongLists.{stopped_listed, long_listed}
-use Rattle.pass_transfer.specs.declared.Next.{Next}
 use Rattle.pass_transfer.specs.declared.Next.TheVariants.{Read, Turn, Refused}
 use Rattle.pass_transfer.specs.Code.Standing.{onward, NoLine}
-use Rattle.pass_turn.specs.Code.Turning.{zeros, TooLong, Begun, Finished, Turned}
+use Rattle.pass_turn.specs.Code.Turning.{zeros, TooLong, Begun, Turned}
 
 -- a run whose list waits at the front of a buffer
 abbrev held_in : Pass → List Float → ℕ → List ℕ → Run

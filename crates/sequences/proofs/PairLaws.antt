@@ -119,7 +119,7 @@ module _ {ℓ} {A : Type ℓ} (xs ys : List A) (same : length xs ≡ length ys) 
 pub pairs_none {ℓ} : {A : Type ℓ} (xs : List A) → length xs < 2 → pairs xs ≡ []
 pairs_none xs h = pairs_short xs (omega arith)
 
--- a list keeps its length under `mapPairs`
+-- a list keeps its length under `map_pairs`
 pub length_map_pairs {ℓ} : {A : Type ℓ} (f : A × A → A × A) (l : List A) → length (map_pairs f l) ≡ length l
 unfolding map_pairs
 length_map_pairs f [] = refl

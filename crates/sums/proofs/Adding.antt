@@ -1,4 +1,4 @@
--- A loop that adds: before turn k its sum is `sumFrom op z f k`. Its start, a turn, and its end.
+-- A loop that adds: before turn k its sum is `sum_from op z f k`. Its start, a turn, and its end.
 use mathlib.Core.Path.{◌≡◌, refl}
 use Prim.Native.Nat.{ℕ, ◌+◌, ◌≤◌}
 use native.Mathlib.Numerals.{add-one}

@@ -3,7 +3,7 @@
 
 ghost use Rattle.std.specs.Prelude.{◌≡◌, ◌||◌};
 ghost use Rattle.sequences.specs.Pairs.{pairs};
-ghost use Rattle.survey.specs.Survey.{not_aNumber, clipped, signal, survey_of};
+ghost use Rattle.survey.specs.Survey.{not_a_number, clipped, signal, survey_of};
 ghost use Rattle.survey.specs.Code.Flag.{flag_of};
 
 // What was seen in the pairs so far.
@@ -16,7 +16,7 @@ struct Seen {
 
 // One pair more.
 fn looked_at(m: Seen, re: f32, im: f32) -> Seen
-    ensures { (result.not_a_number ≡ (m.not_a_number || not_aNumber (re, im))) × (result.clipped ≡ (m.clipped || clipped (re, im))) × (result.signal ≡ (m.signal || signal (re, im))) }
+    ensures { (result.not_a_number ≡ (m.not_a_number || not_a_number (re, im))) × (result.clipped ≡ (m.clipped || clipped (re, im))) × (result.signal ≡ (m.signal || signal (re, im))) }
 {
     let power = re * re + im * im;
     Seen {

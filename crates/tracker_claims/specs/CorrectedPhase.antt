@@ -1,5 +1,5 @@
 -- What a correction promises of the phase (the request for one name for half a turn): right after one that took a gain and was not lost, the phase of the
--- channel that it corrected lies from minus half the range, included, to plus half, excluded. Said of `bandCorrected`, and of the updates of one frequency
+-- channel that it corrected lies from minus half the range, included, to plus half, excluded. Said of `band_corrected`, and of the updates of one frequency
 -- and of two, which the code of every block is proved equal to. Statements; proofs/CorrectedPhase.antt proves them.
 use Rattle.std.specs.Prelude.{◌≡◌, Bool, List, T, Float}
 use Rattle.tracker_covariance.specs.declared.states.Band.{Band}

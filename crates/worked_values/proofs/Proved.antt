@@ -9,7 +9,7 @@ use Rattle.ieee754.specs.SquareRoot.{sqrt, round_root, root_digits}
 use Rattle.elementary_sincos.proofs.WorkedValues.{sine_far, cosine_far}
 use Rattle.elementary_arctangent.specs.SpecialCases.{special}
 use Rattle.elementary_arctangent.specs.Steps.{atan2_of}
-use Rattle.survey.specs.Survey.{not_aNumber, clipped, signal, survey_of}
+use Rattle.survey.specs.Survey.{not_a_number, clipped, signal, survey_of}
 use Rattle.tracker_measurement.specs.Phase.{centred, wrapped}
 use Rattle.estimate_snr.proofs.WorkedValues.{none_value, four_value}
 use Rattle.estimate_esprit.proofs.WorkedValues.{nine_value}
@@ -20,7 +20,7 @@ use Rattle.worked_values.proofs.PassListed.{pass_listed}
 use Rattle.worked_values.specs.Table.{WorkedValues}
 
 pub worked_values : WorkedValues
-unfolding bad_rate whole decimated_rate sqrt round_root root_digits atan2_of special survey_of not_aNumber clipped signal wrapped centred rem_euclid absolute pairs some of_bits of_int add sub mul div rem lt le eq is_nan neg to_unsigned
+unfolding bad_rate whole decimated_rate sqrt round_root root_digits atan2_of special survey_of not_a_number clipped signal wrapped centred rem_euclid absolute pairs some of_bits of_int add sub mul div rem lt le eq is_nan neg to_unsigned
 worked_values =
     record {
       rate_999 = λ s f r. refused_rate s (record { factor_is = f; rate_is = r }) refl;

@@ -1,5 +1,5 @@
 -- A bank over the samples of a block, tracker by tracker: the order in which the code takes them. proofs/SampleOrder shows that it gives what
--- `bankFollowed` gives. Definitions only.
+-- `bank_followed` gives. Definitions only.
 use Rattle.std.specs.Prelude.{Float}
 use Rattle.bank_model.specs.Values.{with_trackers}
 use Rattle.bank_model.specs.Following.{Lists, BankWindows, fades, on_stretch}

@@ -3,7 +3,6 @@ use Prim.Native.Nat.{ℕ}
 use mathlib.Core.Path.{◌≡◌, refl, sym, ◌∙◌, ap}
 use mathlib.Core.Bool.{Bool, true, false, cond}
 use mathlib.Core.List.{List}
-use borrow.Author.Rules.{rules}
 use Rattle.channel_cases.specs.declared.Group.{Group}
 use Rattle.channel_cases.specs.Code.Cases.{case_holds}
 use Rattle.channel_cases.specs.Code.Groups.{one_more, with_case}

@@ -1,6 +1,5 @@
 -- `channel_cases::run` is safe and ends: a line ends within the text, and the next one starts after it. Assumes nothing.
 use Prim.Native.Nat.{◌-◌, ◌≤◌}
-use borrow.Author.Rules.{rules}
 use lib.ListN.{length}
 use Rattle.channel_cases.proofs.run.Given as goal
 

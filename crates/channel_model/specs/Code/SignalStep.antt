@@ -1,4 +1,4 @@
--- A flag 1 block, its trackers started: the second part of `withSignal`. Definitions only.
+-- A flag 1 block, its trackers started: the second part of `with_signal`. Definitions only.
 use Rattle.std.specs.Prelude.{List, Float}
 use Rattle.channel_model.specs.declared.Channel.{Channel}
 use Rattle.channel_model.specs.Answers.{answer_of}

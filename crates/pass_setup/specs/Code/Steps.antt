@@ -1,4 +1,4 @@
--- The steps of the list, for proofs: they compute to what `further` and `listAfter` say. Definitions only.
+-- The steps of the list, for proofs: they compute to what `further` and `list_after` say. Definitions only.
 use Rattle.std.specs.Prelude.{List, ◌++◌, ℕ, Float}
 use Rattle.pass_setup.specs.Judging.{Judgement}
 use Rattle.pass_setup.specs.Listing.{Run, input_ended}

@@ -3,7 +3,6 @@ use mathlib.Core.Path.{refl}
 use native.Mathlib.Omega.{arith}
 use Rattle.pass_writer.proofs.WrittenLaws.{alone, alone_within}
 use Rattle.pass_turn.proofs.TurnLaws.{short_names, begun}
-use borrow.Author.Rules.{rules}
 use Rattle.pass_turn.proofs.begin.Goals as goal
 
 pub returns : goal.returns

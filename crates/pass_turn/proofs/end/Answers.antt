@@ -2,7 +2,6 @@
 use native.Mathlib.Omega.{arith}
 use Rattle.pass_session.proofs.ListLaws.{finished_within}
 use Rattle.pass_turn.proofs.TurnLaws.{end_made}
-use borrow.Author.Rules.{rules}
 use Rattle.pass_turn.proofs.end.Goals as goal
 
 pub returns : goal.returns

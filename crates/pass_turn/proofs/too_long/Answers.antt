@@ -4,7 +4,6 @@ use native.Mathlib.Omega.{arith}
 use lib.Seq.{length-take-le}
 use Rattle.pass_session.proofs.ListLaws.{finished_within}
 use Rattle.pass_turn.proofs.TurnLaws.{long_made}
-use borrow.Author.Rules.{rules}
 use Rattle.pass_turn.proofs.too_long.Goals as goal
 
 pub slice_bounds-finish-end : goal.slice_bounds-finish-end

@@ -4,10 +4,9 @@ use Prim.Native.Nat.{◌<◌}
 use native.Mathlib.Omega.{arith}
 use lib.ListN.{length}
 use lib.Seq.{length-take-le}
-use borrow.Author.Tests.{leb-true, le-leb, not-true, not-false}
+use borrow.Author.Tests.{leb-true, le-leb}
 use Rattle.pass_session.proofs.ListLaws.{ran_within, ran_used}
 use Rattle.pass_turn.proofs.TurnLaws.{carried_count, carried_front, turn_stops, no_line, some_used, turn-again, turn-reads, turn-refuses}
-use borrow.Author.Rules.{rules}
 use Rattle.pass_turn.specs.Code.Turning.{GetsOn}
 use Rattle.pass_turn.proofs.turn.Goals as goal
 

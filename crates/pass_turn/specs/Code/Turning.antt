@@ -1,5 +1,5 @@
 -- What a turn owes: the list of the text, whatever follows the bytes that are held. Definitions only.
-use Rattle.std.specs.Prelude.{◌≡◌, false, List, [], ◌++◌, ℕ, ◌≤◌, ◌<◌, length, take, replicate, Float}
+use Rattle.std.specs.Prelude.{◌≡◌, false, List, ◌++◌, ℕ, ◌≤◌, ◌<◌, length, take, replicate, Float}
 use Rattle.ieee754.specs.Binary64 as float
 use Rattle.pass_reader.specs.Code.Places.{longest_line}
 use Rattle.pass_writer.specs.Code.Buffers.{longest}

@@ -7,7 +7,7 @@ use lib.ListN.{length, drop}
 use lib.Ieee.{Float}
 use Rattle.sequences.specs.Pairs.{pairs}
 use Rattle.sequences.specs.Folds.{some}
-use Rattle.survey.specs.Survey.{not_aNumber, clipped, signal}
+use Rattle.survey.specs.Survey.{not_a_number, clipped, signal}
 use Rattle.survey.proofs.survey.Given as goal
 
 -- what the whole list has, of one test
@@ -16,7 +16,7 @@ Left p xs m i = (m || some p (pairs (drop i xs))) ≡ some p (pairs xs)
 
 abbrev pub invariant-loop-i : goal.invariant-loop-i
 invariant-loop-i l =
-    Left not_aNumber l.samples l.m.not_a_number l.i × Left clipped l.samples l.m.clipped l.i × Left signal l.samples l.m.signal l.i × (l.i ≤ length l.samples)
+    Left not_a_number l.samples l.m.not_a_number l.i × Left clipped l.samples l.m.clipped l.i × Left signal l.samples l.m.signal l.i × (l.i ≤ length l.samples)
 
 abbrev pub decreases-loop-i : goal.decreases-loop-i
 decreases-loop-i l = length l.samples - l.i

@@ -5,7 +5,6 @@ use lib.Ieee.{Float}
 use lib.ListN.{get_or}
 use Rattle.channel_script.specs.Code.Setting.{set_by}
 use Rattle.channel_cases.proofs.CaseLaws.{after-script, after-set, after-asked}
-use borrow.Author.Rules.{rules}
 use Rattle.channel_cases.proofs.line.after.Goals as goal
 
 pub returns-then-k-eq0 : goal.returns-then-k-eq0

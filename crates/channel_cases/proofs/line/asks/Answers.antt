@@ -1,7 +1,6 @@
 -- `channel_cases::line::asks` meets its contract. Assumes nothing.
 use native.Mathlib.Omega.{arith}
 use Rattle.channel_cases.proofs.CaseLaws.{asks_none, asks_some}
-use borrow.Author.Rules.{rules}
 use Rattle.channel_cases.proofs.line.asks.Goals as goal
 
 pub returns-then-k-eq0 : goal.returns-then-k-eq0

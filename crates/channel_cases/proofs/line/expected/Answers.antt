@@ -3,7 +3,6 @@ use mathlib.Core.Path.{sym}
 use native.Mathlib.Omega.{arith}
 use lib.Seq.{length-take-le}
 use Rattle.channel_cases.proofs.CaseLaws.{expected_is}
-use borrow.Author.Rules.{rules}
 use Rattle.channel_cases.proofs.line.expected.Goals as goal
 
 pub slice_bounds-quantity-end : goal.slice_bounds-quantity-end

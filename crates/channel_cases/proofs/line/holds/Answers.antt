@@ -1,14 +1,13 @@
 -- `channel_cases::line::holds` meets its contract: the words that are left, from the case so far, come to all of them. Assumes nothing.
-use mathlib.Core.Path.{◌≡◌, ap, sym, ◌∙◌}
+use mathlib.Core.Path.{ap, sym, ◌∙◌}
 use mathlib.Core.Bool.{true, false}
-use Prim.Native.Nat.{◌-◌, ◌≤◌}
+use Prim.Native.Nat.{◌-◌}
 use native.Mathlib.Omega.{arith}
-use borrow.Author.Rules.{rules}
-use lib.ListN.{length, take, drop}
+use lib.ListN.{take, drop}
 use Rattle.sequences.specs.Folds.{fold}
 use Rattle.pass_reader.specs.Bytes.{fields}
 use Rattle.channel_script.specs.declared.session.Session.{Session}
-use Rattle.channel_cases.specs.Code.Cases.{Judged, judged, unjudged, verdict, case_holds}
+use Rattle.channel_cases.specs.Code.Cases.{Judged, judged, verdict, case_holds}
 use Rattle.channel_cases.proofs.CaseLaws.{judged_of, judged_is, word_next, case_ends}
 use Rattle.channel_cases.proofs.line.holds.Goals as goal
 

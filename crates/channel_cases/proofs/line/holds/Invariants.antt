@@ -1,15 +1,11 @@
 -- `channel_cases::line::holds` meets its contract: the words that are left, from the case so far, come to all of them. Assumes nothing.
-use mathlib.Core.Path.{◌≡◌, ap, sym, ◌∙◌}
-use mathlib.Core.Bool.{true, false}
+use mathlib.Core.Path.{◌≡◌}
 use Prim.Native.Nat.{◌-◌, ◌≤◌}
-use native.Mathlib.Omega.{arith}
-use borrow.Author.Rules.{rules}
-use lib.ListN.{length, take, drop}
+use lib.ListN.{length, drop}
 use Rattle.sequences.specs.Folds.{fold}
 use Rattle.pass_reader.specs.Bytes.{fields}
-use Rattle.channel_script.specs.declared.session.Session.{Session}
-use Rattle.channel_cases.specs.Code.Cases.{Judged, judged, unjudged, verdict, case_holds}
-use Rattle.channel_cases.proofs.CaseLaws.{judged_of, judged_is, word_next, case_ends}
+use Rattle.channel_cases.specs.Code.Cases.{judged, unjudged}
+use Rattle.channel_cases.proofs.CaseLaws.{judged_of}
 use Rattle.channel_cases.proofs.line.holds.Given as goal
 
 abbrev pub invariant-loop-at : goal.invariant-loop-at

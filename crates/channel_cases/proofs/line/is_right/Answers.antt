@@ -4,7 +4,6 @@ use Prim.Native.Nat.{◌<◌}
 use native.Mathlib.Omega.{arith}
 use Rattle.channel_cases.specs.Code.Cases.{sign_place}
 use Rattle.channel_cases.proofs.CaseLaws.{right-asked, right-unasked, asks_signed}
-use borrow.Author.Rules.{rules}
 use Rattle.channel_cases.proofs.line.is_right.Goals as goal
 
 pub expected-requires : goal.expected-requires

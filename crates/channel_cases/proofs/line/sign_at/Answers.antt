@@ -2,7 +2,6 @@
 use mathlib.Core.Path.{sym, ◌∙◌}
 use native.Mathlib.Omega.{arith}
 use Rattle.channel_cases.proofs.CaseLaws.{sign_short, sign_one, sign_two, sign_none}
-use borrow.Author.Rules.{rules}
 use Rattle.channel_cases.proofs.line.sign_at.Goals as goal
 
 pub returns-then-w-lt3 : goal.returns-then-w-lt3

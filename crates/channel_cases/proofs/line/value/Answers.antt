@@ -1,7 +1,6 @@
 -- `channel_cases::line::value` meets its contract, by the first byte and the last. Assumes nothing.
 use mathlib.Core.Path.{◌∙◌}
 use Rattle.channel_cases.proofs.CaseLaws.{value_none, value_pattern, value_name, value_decimal}
-use borrow.Author.Rules.{rules}
 use Rattle.channel_cases.proofs.line.value.Goals as goal
 
 pub returns-then-n-eq0 : goal.returns-then-n-eq0

@@ -3,7 +3,6 @@ use mathlib.Core.Path.{ap, ◌∙◌}
 use Prim.Native.Nat.{◌+◌}
 use Rattle.pass_reader.proofs.ByteLaws.{tail_is}
 use Rattle.channel_cases.specs.Code.Cases.{value_of}
-use borrow.Author.Rules.{rules}
 use Rattle.channel_cases.proofs.line.value_behind.Goals as goal
 
 pub returns : goal.returns

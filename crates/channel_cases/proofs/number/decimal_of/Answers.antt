@@ -1,12 +1,8 @@
 -- `channel_cases::number::decimal_of` meets its contract: the bytes that are left, from what is read so far, come to all of them. Assumes nothing.
-use mathlib.Core.Path.{◌≡◌, refl, ap, sym, ◌∙◌}
-use Prim.Native.Nat.{◌-◌, ◌≤◌}
+use mathlib.Core.Path.{refl, ap, sym, ◌∙◌}
 use native.Mathlib.Omega.{arith}
-use borrow.Author.Rules.{rules}
-use lib.ListN.{length, drop}
-use Rattle.sequences.specs.Folds.{fold}
 use Rattle.sequences.proofs.FoldLaws.{fold_next, fold_end}
-use Rattle.channel_cases.specs.Code.Numbers.{no_digits, with_byte, quotient, decimal_of}
+use Rattle.channel_cases.specs.Code.Numbers.{with_byte, quotient, decimal_of}
 use Rattle.channel_cases.proofs.number.decimal_of.Goals as goal
 
 pub loop-i-init : goal.loop-i-init

@@ -1,11 +1,8 @@
 -- `channel_cases::number::pattern` meets its contract: the digits that are left, from those so far, come to all of them. Assumes nothing.
-use mathlib.Core.Path.{◌≡◌, refl, ap, sym, ◌∙◌}
-use Prim.Native.Nat.{ℕ, ◌-◌}
+use mathlib.Core.Path.{refl, ap, sym, ◌∙◌}
+use Prim.Native.Nat.{ℕ}
 use native.Mathlib.Omega.{arith}
-use borrow.Author.Rules.{rules}
 use lib.Ieee.{binary64, of_bits}
-use lib.ListN.{length, drop}
-use Rattle.sequences.specs.Folds.{fold}
 use Rattle.sequences.proofs.FoldLaws.{fold_next, fold_end}
 use Rattle.vectors.specs.Code.Words.{with_digit}
 use Rattle.channel_cases.specs.Code.Numbers.{pattern_of}

@@ -1,14 +1,9 @@
 -- `channel_cases::number::pattern` meets its contract: the digits that are left, from those so far, come to all of them. Assumes nothing.
-use mathlib.Core.Path.{◌≡◌, refl, ap, sym, ◌∙◌}
-use Prim.Native.Nat.{ℕ, ◌-◌}
-use native.Mathlib.Omega.{arith}
-use borrow.Author.Rules.{rules}
-use lib.Ieee.{binary64, of_bits}
+use mathlib.Core.Path.{◌≡◌}
+use Prim.Native.Nat.{◌-◌}
 use lib.ListN.{length, drop}
 use Rattle.sequences.specs.Folds.{fold}
-use Rattle.sequences.proofs.FoldLaws.{fold_next, fold_end}
 use Rattle.vectors.specs.Code.Words.{with_digit}
-use Rattle.channel_cases.specs.Code.Numbers.{pattern_of}
 use Rattle.channel_cases.proofs.number.pattern.Given as goal
 
 abbrev pub invariant-loop-i : goal.invariant-loop-i

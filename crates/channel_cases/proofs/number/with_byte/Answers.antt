@@ -8,7 +8,6 @@ use Rattle.channel_script.specs.Code.Letters.{stands_for}
 use Rattle.channel_script.proofs.LetterLaws.{stands_for_none}
 use Rattle.channel_cases.specs.declared.number.Decimal.{Decimal}
 use Rattle.channel_cases.specs.Code.Numbers.{with_decimal, with_byte}
-use borrow.Author.Rules.{rules}
 use Rattle.channel_cases.proofs.number.with_byte.Goals as goal
 
 -- a minus and a point

@@ -1,6 +1,5 @@
 -- `channel_cases::number::with_decimal` meets its contract. Assumes nothing.
 use Rattle.channel_cases.specs.Code.Numbers.{with_decimal}
-use borrow.Author.Rules.{rules}
 use Rattle.channel_cases.proofs.number.with_decimal.Goals as goal
 
 pub returns-then-d : goal.returns-then-d

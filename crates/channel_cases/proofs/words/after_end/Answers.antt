@@ -1,7 +1,6 @@
 -- `channel_cases::words::after_end` meets its contract. Assumes nothing.
 use native.Mathlib.Omega.{arith}
 use borrow.Author.Tests.{lt-ltb, le-ltb}
-use borrow.Author.Rules.{rules}
 use Rattle.channel_cases.proofs.words.after_end.Goals as goal
 
 pub returns-then-end-len : goal.returns-then-end-len

@@ -1,9 +1,7 @@
 -- `channel_cases::words::end_of` meets its contract: the place in what is left, and where that starts. Assumes nothing.
-use Prim.Native.Nat.{◌-◌}
 use native.Mathlib.Omega.{arith}
 use lib.ListN.{drop, length-drop}
 use Rattle.pass_reader.proofs.ByteLaws.{found_from, place_within}
-use borrow.Author.Rules.{rules}
 use Rattle.channel_cases.proofs.words.end_of.Goals as goal
 
 pub overflow_add-result : goal.overflow_add-result

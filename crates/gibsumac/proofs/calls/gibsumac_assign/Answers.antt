@@ -1,6 +1,5 @@
 -- The call on the channel that C holds.
 use Rattle.gibsumac.proofs.PlainLaws.{assigned_is}
-use borrow.Author.Rules.{rules}
 use Rattle.gibsumac.proofs.calls.gibsumac_assign.Goals as goal
 
 pub returns : goal.returns

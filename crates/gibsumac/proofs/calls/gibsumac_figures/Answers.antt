@@ -6,7 +6,6 @@ use Rattle.channel_model.specs.declared.Channel.{Channel}
 use Rattle.channel_model.specs.Figures.{figures}
 use Rattle.channel_c_layout.specs.declared.plain_calls.TwelveFigures.{TwelveFigures}
 use Rattle.channel_c_layout.specs.Calls.{figures_c}
-use borrow.Author.Rules.{rules}
 use Rattle.gibsumac.proofs.calls.gibsumac_figures.Goals as goal
 
 showing : List Float → TwelveFigures

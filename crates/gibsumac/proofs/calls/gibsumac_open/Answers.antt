@@ -5,7 +5,6 @@ use Rattle.channel_c_layout.specs.declared.plain_channel.PlainChannel.{PlainChan
 use Rattle.gibsumac.proofs.PlainLaws.{returned_with}
 use Rattle.channel_c_layout.specs.Channels.{plain_channel}
 use Rattle.channel_c_layout.specs.Calls.{opened_c}
-use borrow.Author.Rules.{rules}
 use Rattle.gibsumac.proofs.calls.gibsumac_open.Goals as goal
 
 pub returns : goal.returns

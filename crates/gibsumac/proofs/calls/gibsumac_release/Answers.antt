@@ -4,7 +4,6 @@ use Rattle.channel_model.specs.declared.Channel.{Channel}
 use Rattle.channel_model.specs.Releasing.{released}
 use Rattle.channel_c_layout.specs.Channels.{plain_channel}
 use Rattle.channel_c_layout.specs.Calls.{released_c}
-use borrow.Author.Rules.{rules}
 use Rattle.gibsumac.proofs.calls.gibsumac_release.Goals as goal
 
 pub returns : goal.returns

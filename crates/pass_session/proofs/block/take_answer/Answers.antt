@@ -2,7 +2,6 @@
 use Rattle.pass_setup.specs.Judging.{block_taken}
 use Rattle.pass_setup.proofs.LineCases.{printed_as, or_refused, or_judged}
 use Rattle.pass_session.proofs.BlockCases.{answer_printed}
-use borrow.Author.Rules.{rules}
 use Rattle.pass_session.proofs.block.take_answer.Goals as goal
 
 pub returns-then-a-ne0 : goal.returns-then-a-ne0

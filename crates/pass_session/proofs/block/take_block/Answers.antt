@@ -1,8 +1,7 @@
 -- `take_block`, by what the line says: outside the form, or a flag and samples for the channel.
-use mathlib.Core.Path.{◌≡◌, refl, sym, ◌∙◌, ap}
+use mathlib.Core.Path.{sym}
 use lib.Seq.{length-take-le}
 use Rattle.pass_session.proofs.BlockCases.{said_within, block_refused, block-answered}
-use borrow.Author.Rules.{rules}
 use Rattle.pass_session.proofs.block.take_block.Goals as goal
 
 pub returns-in_default : goal.returns-in_default

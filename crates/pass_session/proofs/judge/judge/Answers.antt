@@ -1,6 +1,5 @@
 -- `judge`, by where in the text the line stands.
 use Rattle.pass_setup.proofs.LineCases.{names_judged, values_judged_lem, block_names_judged, blocks_judged, stopped_judged}
-use borrow.Author.Rules.{rules}
 use Rattle.pass_session.proofs.judge.judge.Goals as goal
 
 pub returns-in-Names : goal.returns-in-Names

@@ -1,11 +1,9 @@
 -- `run`: the lines of what is left of the chunk, run from here, come to the same as all its lines from the start.
-use mathlib.Core.Path.{◌≡◌, refl, sym, ◌∙◌, ap}
-use Prim.Native.Nat.{◌+◌, ◌-◌, ◌≤◌, ◌<◌}
+use mathlib.Core.Path.{refl, sym, ◌∙◌}
 use native.Mathlib.Omega.{arith}
-use borrow.Author.Rules.{rules}
-use lib.ListN.{length, drop}
+use lib.ListN.{drop}
 use Rattle.pass_stream.specs.Stream.{lines}
-use Rattle.pass_setup.specs.Code.Buffers.{lines_run, as_chunk_run, past, as_printed, run_has_room}
+use Rattle.pass_setup.specs.Code.Buffers.{as_chunk_run, past, as_printed, run_has_room}
 use Rattle.pass_session.proofs.RunLaws.{run_full, run_ends, run_goes_on, line_fits}
 use Rattle.pass_session.proofs.run.run.Goals as goal
 

@@ -1,12 +1,9 @@
 -- `run`: the lines of what is left of the chunk, run from here, come to the same as all its lines from the start.
-use mathlib.Core.Path.{◌≡◌, refl, sym, ◌∙◌, ap}
-use Prim.Native.Nat.{◌+◌, ◌-◌, ◌≤◌, ◌<◌}
-use native.Mathlib.Omega.{arith}
-use borrow.Author.Rules.{rules}
+use mathlib.Core.Path.{◌≡◌}
+use Prim.Native.Nat.{◌-◌, ◌≤◌}
 use lib.ListN.{length, drop}
 use Rattle.pass_stream.specs.Stream.{lines}
-use Rattle.pass_setup.specs.Code.Buffers.{lines_run, as_chunk_run, past, as_printed, run_has_room}
-use Rattle.pass_session.proofs.RunLaws.{run_full, run_ends, run_goes_on, line_fits}
+use Rattle.pass_setup.specs.Code.Buffers.{lines_run}
 use Rattle.pass_session.proofs.run.run.Given as goal
 
 abbrev pub invariant-loop-n : goal.invariant-loop-n
