@@ -1,17 +1,25 @@
 -- Where the stretches are equal, what is done on one of them and copied to the others is what is done on each. Assumes nothing.
 use mathlib.Core.Path.{◌≡◌, ap, sym, ◌∙◌}
-use mathlib.Core.List.{List, ◌++◌}
+use mathlib.Core.List.{List, ◌++◌, append_assoc}
 use mathlib.Core.Logic.{inl, inr}
-use Prim.Native.Nat.{ℕ}
+use Prim.Native.Nat.{ℕ, ◌+◌}
 use native.Mathlib.Omega.{arith}
 use lib.ListN.{length, take, drop, length-append, length-drop}
-use lib.Seq.{length-take-le}
+use lib.Seq.{length-take-le, drop-drop, paste}
 use lib.Ieee.{Float, nan}
 use Rattle.sequences.specs.Stretches.{stretch, replaced, within}
 use Rattle.sequences.proofs.StretchLaws.{length-replaced, stretch-replaced, stretch-apart}
 use Rattle.tracker.specs.declared.state.Tracked.{Tracked}
 use Rattle.tracker_model.specs.Following.{TrackerWindow}
 use Rattle.bank_equal_trackers.specs.Code.Alike.{Level, thrice}
+
+-- a stretch copied to another place
+pub pasted : (a b : ℕ) (w : List Float) {v : List Float} → v ≡ paste w b (drop a w) 2048 → v ≡ replaced b 2048 w (stretch a 2048 w)
+unfolding replaced stretch
+pasted a b w e =
+    e
+    ∙ append_assoc (take b w) (take 2048 (drop a w)) (drop (b + 2048) w)
+    ∙ ap (λ (l : List Float). take b w ++ (take 2048 (drop a w) ++ l)) (sym (drop-drop 2048 b w))
 
 -- what stands in a stretch of a memory of 8,192 numbers has 2,048
 part_length : (w p : List Float) → length w ≡ 8192 → length (replaced 2048 2048 w p) ≡ 8192 → length p ≡ 2048

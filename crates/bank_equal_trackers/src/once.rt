@@ -3,26 +3,30 @@ ghost use Rattle.std.specs.Prelude.{◌≡◌, true, false, length};
 ghost use Rattle.tracker_model.specs.Following.{over_lists};
 ghost use Rattle.bank_equal_trackers.specs.Code.Alike.{Level, Alike, thrice};
 
-use crate::copy::copy_stretch;
-use crate::trackers::same_tracker;
-use crate::windows::are_level;
+use crate::same::{Same, same_lists};
 use tracker::state::Tracked;
 use tracker_over_block::stretch::follow_on;
 
-// Whether the three trackers are equal with all that is theirs.
-pub fn are_alike(t0: Tracked, t1: Tracked, t2: Tracked, w: &[f64]) -> bool
+// Whether stretches 2 and 3 of the window memory are the same as stretch 1.
+// Not an array of 8,192: C lends the memory as a slice, and a block refuses it by its length.
+fn are_level(w: &[f64]) -> bool
     requires { length w.now ≡ 8192 }
-    ensures { result ≡ true → Alike t0 t1 t2 w.now }
+    ensures { result ≡ true → Level w.now }
 {
-    if same_tracker(t1, t0) {
-        if same_tracker(t2, t0) {
-            return are_level(w);
-        }
-    }
-    false
+    let first = &w[2048..4096];
+    same_lists(&w[4096..6144], first) & same_lists(&w[6144..8192], first)
+}
+
+// Whether the three trackers are the same with all that is theirs.
+pub fn are_alike(t0: &Tracked, t1: &Tracked, t2: &Tracked, w: &[f64]) -> bool
+    requires { length w.now ≡ 8192 }
+    ensures { result ≡ true → Alike t0.now t1.now t2.now w.now }
+{
+    t1.same(t0) && t2.same(t0) && are_level(w)
 }
 
 // One tracker over all samples on stretch 1, for three that are alike and do not fade; its stretch is copied to the others.
+// Not a struct of the lists: `follow_on` takes them one by one, and would have them taken apart again.
 pub fn follow_once(
     h: Tracked,
     two: bool,
@@ -35,7 +39,7 @@ pub fn follow_once(
     ensures { (result, result, result, w.new) ≡ thrice (over_lists two dt false first.now second.now) (h, w.old) }
 {
     let r = follow_on(h, two, first, second, w, 1, dt, false);
-    copy_stretch(w, 2048, 4096);
-    copy_stretch(w, 2048, 6144);
+    w.copy_within(2048..4096, 4096);
+    w.copy_within(2048..4096, 6144);
     r
 }

@@ -1,100 +1,44 @@
-// Trackers that are equal in every field, with their covariances.
-ghost use Rattle.std.specs.Prelude.{◌≡◌, true};
-ghost use Rattle.bank_equal_trackers.specs.Code.Alike.{floats_of, counts_of, switches_of};
+// Trackers that are the same: every field is, and the covariance.
+use crate::same::Same;
+use tracker::state::{CarrierPllEkf, Tracked, Tuning};
+use tracker_power_ratio::PowerSums;
 
-use crate::numbers::{same_covariances, same_states, same_stretches};
-use tracker::state::{CarrierPllEkf, Tracked};
-use tracker_measurement::modulation::{Modulation, modulation_number};
-
-fn same_bool(a: bool, b: bool) -> bool
-    ensures { result ≡ true → a ≡ b }
-{
-    if a {
-        return b;
+impl Same for Tuning {
+    fn same(&self, other: &Tuning) -> bool {
+        self.q_phase.same(&other.q_phase)
+            & self.q_freq.same(&other.q_freq)
+            & self.q_chirp.same(&other.q_chirp)
+            & self.r_meas.same(&other.r_meas)
+            & self.ts.same(&other.ts)
+            & self.frequency_ratio.same(&other.frequency_ratio)
+            & self.adaptive_ekf.same(&other.adaptive_ekf)
+            & self.dual_lock.same(&other.dual_lock)
     }
-    !b
 }
 
-fn same_modulation(a: Modulation, b: Modulation) -> bool
-    ensures { result ≡ true → a ≡ b }
-{
-    let x = modulation_number(a);
-    let y = modulation_number(b);
-    x == y
+impl Same for PowerSums {
+    fn same(&self, other: &PowerSums) -> bool {
+        self.pushed.same(&other.pushed)
+            & self.sum_abs_i.same(&other.sum_abs_i)
+            & self.sum_q_sq.same(&other.sum_q_sq)
+    }
 }
 
-// The floats besides the states.
-fn same_figures(t: CarrierPllEkf, u: CarrierPllEkf) -> bool
-    ensures { result ≡ true → floats_of t ≡ floats_of u }
-{
-    let f = [
-        t.tuning.q_phase,
-        t.tuning.q_freq,
-        t.tuning.q_chirp,
-        t.tuning.r_meas,
-        t.tuning.ts,
-        t.tuning.frequency_ratio,
-        t.envelope_ema,
-        t.power.sum_abs_i,
-        t.power.sum_q_sq,
-        t.lock_metric,
-    ];
-    let g = [
-        u.tuning.q_phase,
-        u.tuning.q_freq,
-        u.tuning.q_chirp,
-        u.tuning.r_meas,
-        u.tuning.ts,
-        u.tuning.frequency_ratio,
-        u.envelope_ema,
-        u.power.sum_abs_i,
-        u.power.sum_q_sq,
-        u.lock_metric,
-    ];
-    same_stretches(&f, 0, &g, 0, 10)
+impl Same for CarrierPllEkf {
+    fn same(&self, other: &CarrierPllEkf) -> bool {
+        self.modulation.same(&other.modulation)
+            & self.tuning.same(&other.tuning)
+            & self.x.same(&other.x)
+            & self.envelope_ema.same(&other.envelope_ema)
+            & self.power.same(&other.power)
+            & self.lock_metric.same(&other.lock_metric)
+            & self.is_locked.same(&other.is_locked)
+            & self.convergence_guard.same(&other.convergence_guard)
+    }
 }
 
-// The counts of the window and of the guard.
-fn same_counts(t: CarrierPllEkf, u: CarrierPllEkf) -> bool
-    ensures { result ≡ true → counts_of t ≡ counts_of u }
-{
-    (t.power.pushed == u.power.pushed) & (t.convergence_guard == u.convergence_guard)
-}
-
-fn same_switches(t: CarrierPllEkf, u: CarrierPllEkf) -> bool
-    ensures { result ≡ true → switches_of t ≡ switches_of u }
-{
-    let a = same_bool(t.is_locked, u.is_locked);
-    let b = same_bool(t.tuning.adaptive_ekf, u.tuning.adaptive_ekf);
-    let c = same_bool(t.tuning.dual_lock, u.tuning.dual_lock);
-    a & (b & c)
-}
-
-// Every field.
-fn same_ekf(t: CarrierPllEkf, u: CarrierPllEkf) -> bool
-    ensures { result ≡ true → t ≡ u }
-{
-    let x = t.x;
-    let y = u.x;
-    let m = t.modulation;
-    let n = u.modulation;
-    let states = same_states(x, y);
-    let figures = same_figures(t, u);
-    let counts = same_counts(t, u);
-    let switches = same_switches(t, u);
-    let modulations = same_modulation(m, n);
-    states & (figures & (counts & (switches & modulations)))
-}
-
-// With the covariance.
-pub fn same_tracker(h: Tracked, k: Tracked) -> bool
-    ensures { result ≡ true → h ≡ k }
-{
-    let t = h.ekf;
-    let u = k.ekf;
-    let p = h.p;
-    let q = k.p;
-    let states = same_ekf(t, u);
-    let covariances = same_covariances(p, q);
-    states & covariances
+impl Same for Tracked {
+    fn same(&self, other: &Tracked) -> bool {
+        self.ekf.same(&other.ekf) & self.p.same(&other.p)
+    }
 }

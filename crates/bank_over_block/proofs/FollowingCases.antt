@@ -1,4 +1,4 @@
--- Whether a tracker fades, and a bank from its three trackers over the samples. Assumes nothing.
+-- A bank from its three trackers over the samples. Assumes nothing.
 use Prim.Native.Nat.{ℕ, ◌*◌}
 use mathlib.Core.Path.{◌≡◌, refl, sym, ap, ◌∙◌}
 use mathlib.Core.Bool.{Bool, true, false, true≢false, ◌&&◌, ◌||◌}
@@ -17,19 +17,9 @@ use Rattle.bank_model.specs.Code.TrackerByTracker.{tracker_by_tracker}
 use Rattle.bank_model.proofs.SampleOrder.{orders_agree}
 use Rattle.bank_over_block.specs.Code.AsOne.{AsOne}
 
-module _ (b : EkfTrackingBank) (i : ℕ) where
-  pub in_fade_lem : b.in_fade ≡ true → eqb b.active_idx i ≡ fades b i
-  unfolding fades
-  in_fade_lem h = ap (λ (z : Bool). z && eqb b.active_idx i) (sym h)
-
-  pub no_fade : b.in_fade ≡ false → false ≡ fades b i
-  unfolding fades
-  no_fade h = ap (λ (z : Bool). z && eqb b.active_idx i) (sym h)
-
--- of two tests neither passed
-pub neither : (a b : Bool) → (a || b) ≡ false → a ≡ false
-neither true b h = absurd (true≢false h)
-neither false b h = refl
+no_fade : (b : EkfTrackingBank) (i : ℕ) → b.in_fade ≡ false → false ≡ fades b i
+unfolding fades
+no_fade b i h = ap (λ (z : Bool). z && eqb b.active_idx i) (sym h)
 
 module _ (dt : Float) (l : Lists) where
   abbrev over : ℕ → Bool → TrackerWindow → TrackerWindow

@@ -9,16 +9,15 @@ use bank_model::state::EkfTrackingBank;
 use tracker_over_block::stretch::follow_on;
 
 // Tracker i is the one in use, in a fade.
+#[tactic(auto, unfolding(bank_model::specs::Following::fades))]
 fn is_fading(b: EkfTrackingBank, i: u64) -> bool
     ensures { result ≡ fades b i }
 {
-    if b.in_fade {
-        return b.active_idx == i;
-    }
-    false
+    b.in_fade && b.active_idx == i
 }
 
 // Each tracker by itself.
+// Not `map` of the bank: each has a stretch and a mark of its own, and the memory goes through all three. `follow_on` takes the lists one by one.
 fn follow_each(
     b: EkfTrackingBank,
     two: bool,
@@ -30,28 +29,19 @@ fn follow_each(
     requires { length w.old ≡ 8192 }
     ensures { (result, w.new) ≡ tracker_by_tracker dt record { two = two; first = first.now; second = second.now } (b, w.old) }
 {
-    let fades0 = is_fading(b, 0);
-    let fades1 = is_fading(b, 1);
-    let fades2 = is_fading(b, 2);
-    let h0 = follow_on(b.t0, two, first, second, w, 1, dt, fades0);
-    let h1 = follow_on(b.t1, two, first, second, w, 2, dt, fades1);
-    let h2 = follow_on(b.t2, two, first, second, w, 3, dt, fades2);
-    let mut r = b;
-    r.t0 = h0;
-    r.t1 = h1;
-    r.t2 = h2;
-    r
+    let t0 = follow_on(b.t0, two, first, second, w, 1, dt, is_fading(b, 0));
+    let t1 = follow_on(b.t1, two, first, second, w, 2, dt, is_fading(b, 1));
+    let t2 = follow_on(b.t2, two, first, second, w, 3, dt, is_fading(b, 2));
+    EkfTrackingBank { t0, t1, t2, ..b }
 }
 
 // Whether one run will do for all three: they are alike, and none fades. Below 64 pairs it is not worth asking.
+// Not an array of 8,192 here and below: C lends the window memory as a slice, and a block refuses it by its length.
 fn moves_as_one(b: EkfTrackingBank, n: usize, w: &[f64]) -> bool
     requires { length w.now ≡ 8192 }
     ensures { result ≡ true → AsOne b w.now }
 {
-    if b.in_fade | (n < 128) {
-        return false;
-    }
-    are_alike(b.t0, b.t1, b.t2, w)
+    !b.in_fade && n >= 128 && are_alike(&b.t0, &b.t1, &b.t2, w)
 }
 
 // The three over all samples of one list or of two, tracker by tracker, which gives what sample by sample gives. While they are alike one is run, and
@@ -69,11 +59,13 @@ pub fn follow(
 {
     if moves_as_one(b, first.len(), w) {
         let h = follow_once(b.t0, two, first, second, w, dt);
-        let mut r = b;
-        r.t0 = h;
-        r.t1 = h;
-        r.t2 = h;
-        return r;
+        EkfTrackingBank {
+            t0: h,
+            t1: h,
+            t2: h,
+            ..b
+        }
+    } else {
+        follow_each(b, two, first, second, w, dt)
     }
-    follow_each(b, two, first, second, w, dt)
 }

@@ -1,9 +1,10 @@
 // Which tracker is used.
-ghost use Rattle.std.specs.Prelude.{◌≡◌};
-ghost use Rattle.bank_model.specs.Choice.{better, chosen, numbered};
+ghost use Rattle.std.specs.Prelude.{◌≡◌, cond, ltb, Some, None};
+ghost use Rattle.bank_model.specs.Choice.{chosen};
+ghost use Rattle.bank_selection.specs.Code.BestSoFar.{better_of};
 
 use bank_model::state::EkfTrackingBank;
-use tracker::state::{CarrierPllEkf, Tracked};
+use tracker::state::CarrierPllEkf;
 
 // A tracker's number and its metric.
 #[derive(Clone, Copy)]
@@ -12,47 +13,29 @@ struct Candidate {
     metric: f64,
 }
 
-// The better of the best so far and tracker i.
-fn better_of(best: Candidate, i: u64, t: CarrierPllEkf) -> Candidate
-    ensures { (result.number, result.metric) ≡ better (best.number, best.metric) i t }
+// The better of the best so far and a tracker that is locked; the first has to be above -1.
+#[tactic(auto, unfolding(crate::specs::Code::BestSoFar::better_of, crate::specs::Code::BestSoFar::bar))]
+fn better_of(best: Option<Candidate>, number: u64, t: CarrierPllEkf) -> Option<Candidate>
+    ensures { result ≡ better_of best number t }
 {
-    if t.is_locked {
-        if best.metric < t.lock_metric {
-            return Candidate {
-                number: i,
-                metric: t.lock_metric,
-            };
-        }
+    let bar = best.map_or(-1.0, |c| c.metric);
+    if t.is_locked && bar < t.lock_metric {
+        Some(Candidate {
+            number,
+            metric: t.lock_metric,
+        })
+    } else {
+        best
     }
-    best
 }
 
-// The locked tracker with the highest metric above -1, the lowest of equals; 3 where there is none.
-pub fn choose(b: EkfTrackingBank) -> u64
-    ensures { result ≡ chosen b }
+// The number of the locked tracker with the highest metric above -1, of the lowest of equals.
+pub fn choose(b: EkfTrackingBank) -> Option<u64>
+    ensures { result ≡ cond (ltb (chosen b) 3) (Some (chosen b)) None }
 {
-    let none = Candidate {
-        number: 3,
-        metric: -1.0,
-    };
-    let t0 = b.t0.ekf;
-    let t1 = b.t1.ekf;
-    let t2 = b.t2.ekf;
-    let best0 = better_of(none, 0, t0);
-    let best1 = better_of(best0, 1, t1);
-    let best2 = better_of(best1, 2, t2);
-    best2.number
-}
-
-// The tracker that a number names; all above 1 name the last.
-pub fn tracker_numbered(i: u64, b: EkfTrackingBank) -> Tracked
-    ensures { result ≡ numbered i b }
-{
-    if i == 0 {
-        return b.t0;
-    }
-    if i == 1 {
-        return b.t1;
-    }
-    b.t2
+    // Not a fold: the bank names its trackers one by one, and an array of them is longer than the three calls.
+    let best = better_of(None, 0, b.t0.ekf);
+    let best = better_of(best, 1, b.t1.ekf);
+    let best = better_of(best, 2, b.t2.ekf);
+    best.map(|c| c.number)
 }

@@ -3,59 +3,55 @@ ghost use Rattle.std.specs.Prelude.{◌≡◌};
 ghost use Rattle.channel_model.specs.Answers.{bank_metric, metric_of, answer_of};
 
 use bank_model::state::EkfTrackingBank;
-use bank_selection::choice::tracker_numbered;
 use channel_model::{Answer, Channel};
 
 // The metric of a bank's tracker in use; 0 where none is.
+#[tactic(auto, unfolding(channel_model::specs::Answers::bank_metric))]
 fn bank_metric(b: EkfTrackingBank) -> f64
     ensures { result ≡ bank_metric b }
 {
-    if b.active_idx < 3 {
-        let h = tracker_numbered(b.active_idx, b);
-        return h.ekf.lock_metric;
-    }
-    0.0
+    b.used().map_or(0.0, |h| h.ekf.lock_metric)
 }
 
 // 0 where the channel is not locked, else the metric of the tracker in use.
+#[tactic(auto, unfolding(channel_model::specs::Answers::metric_of))]
 pub fn metric_of(c: Channel) -> f64
     ensures { result ≡ metric_of c }
 {
-    if !c.is_locked {
-        return 0.0;
+    match (c.is_locked, c.setup.bank) {
+        (true, true) => bank_metric(c.bank),
+        (true, false) => c.pll.ekf.lock_metric,
+        (false, _) => 0.0,
     }
-    if c.setup.bank {
-        let b = c.bank;
-        return bank_metric(b);
-    }
-    c.pll.ekf.lock_metric
 }
 
-// Without a bank the tracker is 3, and in fade, fade count and ended are 0.
+// Without a bank no tracker is in use, and in fade, fade count and ended are 0.
+// Not an enum of answers: C reads them as the scope numbers them, 0 for no refusal and 3 for no tracker.
+#[tactic(auto, unfolding(channel_model::specs::Answers::answer_of))]
 pub fn answer_of(c: Channel) -> Answer
     ensures { result ≡ answer_of c }
 {
-    let metric = metric_of(c);
-    let shown = c.reading;
-    let mut answer = Answer {
+    let single = Answer {
         refusal: 0,
         locked: c.is_locked,
-        tracker: 3,
+        tracker: EkfTrackingBank::NONE,
         in_fade: false,
         fade_count: 0,
         ended: false,
-        phase: shown.phase,
-        frequency: shown.frequency,
-        snr: shown.snr,
-        electrons: shown.electrons,
-        metric,
+        phase: c.reading.phase,
+        frequency: c.reading.frequency,
+        snr: c.reading.snr,
+        electrons: c.reading.electrons,
+        metric: metric_of(c),
     };
-    if c.setup.bank {
-        answer.tracker = c.bank.active_idx;
-        answer.in_fade = c.bank.in_fade;
-        answer.fade_count = c.bank.fade_counter;
-        answer.ended = c.bank.terminated_in_fade;
-        return answer;
+    if !c.setup.bank {
+        return single;
     }
-    answer
+    Answer {
+        tracker: c.bank.active_idx,
+        in_fade: c.bank.in_fade,
+        fade_count: c.bank.fade_counter,
+        ended: c.bank.terminated_in_fade,
+        ..single
+    }
 }

@@ -22,46 +22,47 @@ pub struct PlainTracker {
     pub convergence_guard: usize,
 }
 
-pub fn to_plain(h: Tracked) -> PlainTracker
-    ensures { result ≡ plain_tracker h }
-{
-    let t = h.ekf;
-    let m = t.modulation;
-    let tuning = t.tuning;
-    let x = t.x;
-    let p = h.p;
-    let power = t.power;
-    let modulation = modulation_number(m);
-    PlainTracker {
-        modulation,
-        tuning,
-        x,
-        p,
-        envelope_ema: t.envelope_ema,
-        power,
-        lock_metric: t.lock_metric,
-        is_locked: t.is_locked,
-        convergence_guard: t.convergence_guard,
+impl From<Tracked> for PlainTracker {
+    ghost from_gives = { λ h p. p ≡ plain_tracker h };
+
+    #[tactic(auto, unfolding(crate::specs::Trackers::plain_tracker))]
+    fn from(h: Tracked) -> PlainTracker {
+        let t = h.ekf;
+        let x = t.x;
+        let p = h.p;
+        PlainTracker {
+            modulation: modulation_number(t.modulation),
+            tuning: t.tuning,
+            x,
+            p,
+            envelope_ema: t.envelope_ema,
+            power: t.power,
+            lock_metric: t.lock_metric,
+            is_locked: t.is_locked,
+            convergence_guard: t.convergence_guard,
+        }
     }
 }
 
-pub fn to_real(t: PlainTracker) -> Tracked
-    ensures { result ≡ real_tracker t }
-{
-    let modulation = modulation_of(t.modulation);
-    let tuning = t.tuning;
-    let x = t.x;
-    let p = t.p;
-    let power = t.power;
-    let ekf = CarrierPllEkf {
-        modulation,
-        tuning,
-        x,
-        envelope_ema: t.envelope_ema,
-        power,
-        lock_metric: t.lock_metric,
-        is_locked: t.is_locked,
-        convergence_guard: t.convergence_guard,
-    };
-    Tracked { ekf, p }
+impl From<PlainTracker> for Tracked {
+    ghost from_gives = { λ p h. h ≡ real_tracker p };
+
+    #[tactic(auto, unfolding(crate::specs::Trackers::real_tracker))]
+    fn from(t: PlainTracker) -> Tracked {
+        let x = t.x;
+        let p = t.p;
+        Tracked {
+            ekf: CarrierPllEkf {
+                modulation: modulation_of(t.modulation),
+                tuning: t.tuning,
+                x,
+                envelope_ema: t.envelope_ema,
+                power: t.power,
+                lock_metric: t.lock_metric,
+                is_locked: t.is_locked,
+                convergence_guard: t.convergence_guard,
+            },
+            p,
+        }
+    }
 }

@@ -1,8 +1,8 @@
 -- Words by the place of their sign, values by their first byte and their last, and a case word by word. Assumes nothing.
 use mathlib.Core.Path.{◌≡◌, refl, ap, sym, ◌∙◌}
-use mathlib.Core.Bool.{Bool, true, false, true≢false, cond, not, ◌&&◌, ◌||◌, and-true, or-false}
+use mathlib.Core.Bool.{Bool, true, false, cond, not, ◌&&◌, ◌||◌, and-true, or-false}
 use mathlib.Core.List.{List, [], ◌∷◌}
-use Prim.Native.Nat.{ℕ, zero, suc, ◌+◌, ◌-◌, ◌≤◌, ◌<◌}
+use Prim.Native.Nat.{ℕ, suc, ◌+◌, ◌-◌, ◌≤◌, ◌<◌}
 use native.Mathlib.Omega.{arith}
 use borrow.Author.Tests.{eq-eqb, ne_eqb, le-leb, lt-leb}
 use lib.Dec.{eqb, ltb}
@@ -104,15 +104,6 @@ module _ (w : List ℕ) (k : ℕ) (at : k ≡ sign_place w) where
     pub right-asked : asks w ≡ true → expected_at s w k ≡ is_right s w
     unfolding is_right
     right-asked e = rw (← at, e)
-
--- what asks something has a sign
-pub asks_signed : (w : List ℕ) → asks w ≡ true → 0 < sign_place w
-unfolding asks
-asks_signed w e = go (sign_place w) e
-  where
-    go : (k : ℕ) → (not (eqb k 0) && not (eqb (get_or w k 0) 58)) ≡ true → 0 < k
-    go zero e = absurd (true≢false (sym e))
-    go (suc k) e = omega arith
 
 -- what is expected with the sign at k, from what its parts come to
 pub expected_is : (s : Session) (w : List ℕ) (k : ℕ) {v x y : Float} {r : Bool}

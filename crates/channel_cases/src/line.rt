@@ -1,29 +1,31 @@
 // One case: its words from left to right, each of which sets something, makes calls, or says what is expected.
-ghost use Rattle.std.specs.Prelude.{◌≡◌, ◌+◌, ◌≤◌, ◌<◌, length, drop};
+ghost use Rattle.std.specs.Prelude.{◌≡◌, ◌+◌, ◌≤◌, ◌<◌, MatchOption, IfSome, length, drop};
 ghost use Rattle.channel_cases.specs.Code.Cases as meant;
 
 use crate::number::{decimal_of, pattern};
 use crate::words::{after_end, end_of};
 use channel_script::letters::is_one_of;
 use channel_script::look::{quantity, rounded};
-use channel_script::session::{Session, new_session, played};
+use channel_script::session::Session;
 use channel_script::set::set;
 
-// The place of the sign in a word: after one letter or two. 0 in a word that has none, which is a script. Only one letter is set.
-fn sign_at(w: &[u8]) -> usize
-    ensures value { result ≡ meant.sign_place w.now }
-    ensures upper_bound { (result ≤ 2) × (result ≤ length w.now) × (0 < result → result < length w.now) }
+// The place of the sign in a word: after one letter or two. A word that has none is a script. Only one letter is set.
+fn sign_at(w: &[u8]) -> Option<usize>
+    ensures value { MatchOption result
+        (meant.sign_place w.now ≡ 0)
+        (λ k. (k ≡ meant.sign_place w.now) × (0 < k)) }
+    ensures upper_bound { IfSome result (λ k. (k ≤ 2) × (k < length w.now)) }
 {
     if w.len() < 3 {
-        return 0;
+        return None;
     }
     if is_one_of(w[1], b":=!<>") {
-        return 1;
+        return Some(1);
     }
     if is_one_of(w[2], b"=!<>") {
-        return 2;
+        return Some(2);
     }
-    0
+    None
 }
 
 // What stands after the sign: a pattern, a quantity, or a decimal number.
@@ -70,11 +72,10 @@ fn compares(sign: u8, x: f64, y: f64) -> bool
 fn asks(w: &[u8]) -> bool
     ensures { result ≡ meant.asks w.now }
 {
-    let k = sign_at(w);
-    if k == 0 {
-        return false;
+    match sign_at(w) {
+        Some(k) => w[k] != b':',
+        None => false,
     }
-    w[k] != b':'
 }
 
 // Whether what a word expects, with its sign at k, holds.
@@ -92,24 +93,24 @@ fn expected(s: Session, w: &[u8], k: usize) -> bool
 fn is_right(s: Session, w: &[u8]) -> bool
     ensures { result ≡ meant.is_right s w.now }
 {
-    if asks(w) {
-        let k = sign_at(w);
-        return expected(s, w, k);
+    let Some(k) = sign_at(w) else {
+        return true;
+    };
+    if w[k] == b':' {
+        return true;
     }
-    true
+    expected(s, w, k)
 }
 
 // The session after a word: a script is played, a colon sets, and nothing else changes it.
 fn after(s: Session, w: &[u8]) -> Session
     ensures { result ≡ meant.after_word s w.now }
 {
-    let k = sign_at(w);
-    if k == 0 {
-        return played(s, w);
-    }
+    let Some(k) = sign_at(w) else {
+        return s.played(w);
+    };
     if w[k] == b':' {
-        let v = value_behind(s, w, k);
-        return set(s, w[0], v);
+        return set(s, w[0], value_behind(s, w, k));
     }
     s
 }
@@ -118,10 +119,11 @@ fn after(s: Session, w: &[u8]) -> Session
 pub fn holds(line: &[u8]) -> bool
     ensures { result ≡ meant.case_holds line.now }
 {
-    let mut s = new_session();
+    let mut s = Session::new();
     let mut asked = false;
     let mut good = true;
     let mut at = 0;
+    // Not `split`: the laws of a line's fields speak of the places where a word ends.
     while at < line.len() {
         let end = end_of(line, at, 32);
         asked = asked | asks(&line[at..end]);

@@ -7,98 +7,80 @@ mod number;
 mod words;
 
 ghost use Rattle.std.specs.Prelude.{◌≡◌};
-ghost use Rattle.channel_cases.specs.Code.Groups.{one_more, with_case};
+ghost use Rattle.channel_cases.specs.Code.Groups.{with_case};
 
-// The descriptor of standard output.
-const STDOUT: i32 = 1;
+use std::fmt::{self, Write};
+use vectors::output::Stdout;
 
-// A group so far: whether a title started it, its cases, and those that hold.
-#[derive(Clone, Copy)]
+// A group so far: its cases, and those that hold.
+#[derive(Clone, Copy, Default)]
 struct Group {
-    titled: bool,
     good: u64,
     all: u64,
 }
 
-fn counted(n: u64) -> u64
-    ensures { result ≡ one_more n }
-{
-    n % 0x1_0000_0000 + 1
+impl fmt::Display for Group {
+    fn fmt<W: fmt::Write>(&self, f: &mut fmt::Formatter<W>) -> fmt::Result {
+        write!(f, "{} of {}", self.good, self.all)
+    }
 }
 
+// Behind its title, or below the cases that differ.
 fn say_group(g: Group) {
-    if !g.titled {
-        return;
-    }
-    if g.good == g.all {
-        io::write_all(STDOUT, b": ");
+    let _ = if g.good == g.all {
+        writeln!(Stdout, ": {g}")
     } else {
-        io::write_all(STDOUT, b"\n");
-    }
-    io::print_decimal(STDOUT, g.good);
-    io::write_all(STDOUT, b" of ");
-    io::print_decimal(STDOUT, g.all);
-    io::write_all(STDOUT, b"\n");
+        writeln!(Stdout, "\n{g}")
+    };
 }
 
 fn say_differs(case: &[u8]) {
-    io::write_all(STDOUT, b"\ndiffers: ");
-    io::write_all(STDOUT, case);
+    Stdout.write_bytes(b"\ndiffers: ");
+    Stdout.write_bytes(case);
 }
 
+// A count begins anew behind 2 ^ 32.
 fn judge(case: &[u8], g: Group) -> Group
     ensures { result ≡ with_case g case.now }
 {
-    let all = counted(g.all);
+    let all = g.all % 0x1_0000_0000 + 1;
     if line::holds(case) {
         return Group {
-            titled: g.titled,
-            good: counted(g.good),
+            good: g.good % 0x1_0000_0000 + 1,
             all,
         };
     }
     say_differs(case);
-    Group {
-        titled: g.titled,
-        good: g.good,
-        all,
-    }
+    Group { all, ..g }
 }
 
-// A title, which starts a group; a comment; an empty line; or a case.
-fn take(text: &[u8], g: Group) -> Group {
-    if text.len() == 0 {
-        return g;
-    }
-    match text[0] {
-        b'-' => g,
-        b'#' => {
-            say_group(g);
-            io::write_all(STDOUT, text);
-            Group {
-                titled: true,
-                good: 0,
-                all: 0,
+// A title, which starts a group; a comment; an empty line; or a case. There is no group before the first title.
+fn take(text: &[u8], g: Option<Group>) -> Option<Group> {
+    match text {
+        [] | [b'-', ..] => g,
+        [b'#', ..] => {
+            if let Some(g) = g {
+                say_group(g);
             }
+            Stdout.write_bytes(text);
+            Some(Group::default())
         }
-        _ => judge(text, g),
+        _ => {
+            let judged = judge(text, g.unwrap_or_default());
+            g.and(Some(judged))
+        }
     }
 }
 
 // Every line of the text.
 fn run(text: &[u8]) {
-    let mut g = Group {
-        titled: false,
-        good: 0,
-        all: 0,
-    };
-    let mut at = 0;
-    while at < text.len() {
-        let end = words::end_of(text, at, 10);
-        g = take(&text[at..end], g);
-        at = words::after_end(end, text.len());
+    let mut g = None;
+    for line in text.split(|b| *b == b'\n') {
+        g = take(line, g);
     }
-    say_group(g);
+    if let Some(g) = g {
+        say_group(g);
+    }
 }
 
 fn main() {

@@ -2,7 +2,7 @@
 ghost use Rattle.std.specs.Prelude.{◌≡◌};
 ghost use Rattle.channel_cases.specs.Code.Numbers as meant;
 
-use ieee754::pattern::f64_from_bits;
+use vectors::line::Word;
 use vectors::with_digit;
 
 // The digits so far as a whole number, the power of ten of those after the point, and the sign.
@@ -14,36 +14,49 @@ struct Decimal {
     unit: f64,
 }
 
-fn with_decimal(d: Decimal, b: u8) -> Decimal
-    ensures { result ≡ meant.with_decimal d b }
-{
-    let mut e = d;
-    e.digits = d.digits * 10.0 + (b % 16) as f64;
-    if d.point {
-        e.unit = d.unit * 10.0;
+impl Decimal {
+    #[tactic(auto, unfolding(crate::specs::Code::Numbers::with_decimal))]
+    fn with_digit(self, b: u8) -> Decimal
+        ensures { result ≡ meant.with_decimal self b }
+    {
+        Decimal {
+            digits: self.digits * 10.0 + (b % 16) as f64,
+            unit: if self.point {
+                self.unit * 10.0
+            } else {
+                self.unit
+            },
+            ..self
+        }
     }
-    e
-}
 
-fn with_byte(d: Decimal, b: u8) -> Decimal
-    ensures { result ≡ meant.with_byte d b }
-{
-    let mut e = d;
-    match b {
-        b'-' => e.negative = true,
-        b'.' => e.point = true,
-        _ => return with_decimal(d, b),
+    #[tactic(auto, using(std::proofs::lemmas::Bool::Decides::nat_tests), unfolding(crate::specs::Code::Numbers::with_byte, channel_script::specs::Code::Letters::stands_for))]
+    fn with_byte(self, b: u8) -> Decimal
+        ensures { result ≡ meant.with_byte self b }
+    {
+        match b {
+            b'-' => Decimal {
+                negative: true,
+                ..self
+            },
+            b'.' => Decimal {
+                point: true,
+                ..self
+            },
+            _ => self.with_digit(b),
+        }
     }
-    e
-}
 
-fn quotient(d: Decimal) -> f64
-    ensures { result ≡ meant.quotient d }
-{
-    if d.negative {
-        return -d.digits / d.unit;
+    #[tactic(auto, unfolding(crate::specs::Code::Numbers::quotient))]
+    fn quotient(self) -> f64
+        ensures { result ≡ meant.quotient self }
+    {
+        if self.negative {
+            -self.digits / self.unit
+        } else {
+            self.digits / self.unit
+        }
     }
-    d.digits / d.unit
 }
 
 // Exact digits over an exact power of ten, so a number of up to 15 digits is the nearest f64.
@@ -56,23 +69,16 @@ pub fn decimal_of(s: &[u8]) -> f64
         digits: 0.0,
         unit: 1.0,
     };
-    let mut i = 0;
-    while i < s.len() {
-        d = with_byte(d, s[i]);
-        i += 1;
+    for b in s {
+        d = d.with_byte(*b);
     }
-    quotient(d)
+    d.quotient()
 }
 
 // The f64 whose pattern stands as hexadecimal digits after the first byte.
 pub fn pattern(s: &[u8]) -> f64
     ensures { result ≡ meant.pattern_of s.now }
 {
-    let mut v = 0;
-    let mut i = 1;
-    while i < s.len() {
-        v = with_digit(v, s[i]);
-        i += 1;
-    }
-    f64_from_bits(v)
+    let from = 1usize.min(s.len());
+    f64::of_pattern(s[from..].iter().fold(0, |v, b| with_digit(v, *b)))
 }

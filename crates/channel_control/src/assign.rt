@@ -1,10 +1,13 @@
 // Assign: a channel at rest takes its carriers.
 ghost use Rattle.std.specs.Prelude.{◌≡◌};
-ghost use Rattle.channel_model.specs.Assigning.{good_carrier, good_carriers, idle, assign_refusal, with_carriers, assigned};
+ghost use Rattle.channel_model.specs.Returns.{number_said, returned};
+ghost use Rattle.channel_model.specs.Assigning.{good_carrier, good_carriers, assign_refusal, with_carriers, assigned};
 
-use channel_model::{Carriers, Channel, Returned, Status};
+use channel_model::refusal::Refusal;
+use channel_model::{Carriers, Channel, Refused, Status};
 
 // 5. Zero of either sign, or within the limits, so a NaN is refused.
+#[tactic(auto, unfolding(channel_model::specs::Assigning::good_carrier))]
 fn good_carrier(f: f64) -> bool
     ensures { result ≡ good_carrier f }
 {
@@ -12,6 +15,7 @@ fn good_carrier(f: f64) -> bool
 }
 
 // All four are looked at, with one frequency too.
+#[tactic(auto, unfolding(channel_model::specs::Assigning::good_carriers))]
 fn good_carriers(a: Carriers) -> bool
     ensures { result ≡ good_carriers a }
 {
@@ -21,64 +25,41 @@ fn good_carriers(a: Carriers) -> bool
         & good_carrier(a.frequency2)
 }
 
-// Whether the channel waits for its carriers.
-pub fn is_idle(s: Status) -> bool
-    ensures { result ≡ idle s }
-{
-    match s {
-        Status::Idle => true,
-        Status::Assigned => false,
-    }
-}
-
 // 5 before 6.
-fn assign_refusal(a: Carriers, s: Status) -> u64
-    ensures { result ≡ assign_refusal a s }
+#[tactic(auto, unfolding(channel_model::specs::Assigning::assign_refusal, channel_model::specs::Refusals::first_cause))]
+fn check(a: Carriers, s: Status) -> Result<(), Refusal>
+    ensures { number_said result ≡ assign_refusal a s }
 {
-    let good = good_carriers(a);
-    let free = is_idle(s);
-    if !good {
-        return 5;
+    if !good_carriers(a) {
+        return Err(Refusal::Frequency);
     }
-    if !free {
-        return 6;
+    if !s.is_idle() {
+        return Err(Refusal::NotIdle);
     }
-    0
+    Ok(())
 }
 
+#[tactic(auto, unfolding(channel_model::specs::Assigning::with_carriers))]
 fn with_carriers(c: Channel, a: Carriers) -> Channel
     ensures { result ≡ with_carriers c a }
 {
-    let setup = c.setup;
-    let status = Status::Assigned;
-    let pll = c.pll;
-    let bank = c.bank;
-    let reading = c.reading;
     Channel {
-        setup,
-        status,
+        status: Status::Assigned,
         carriers: a,
-        pll,
-        bank,
-        ever_locked: c.ever_locked,
-        last_snr: c.last_snr,
-        is_locked: c.is_locked,
-        reading,
+        ..c
     }
 }
 
 // A refused assign gives the channel back as it was.
-pub fn assign(c: Channel, a: Carriers) -> Returned
-    ensures { result ≡ assigned c a }
+#[tactic(auto, unfolding(channel_model::specs::Assigning::assigned))]
+pub fn assign(c: Channel, a: Carriers) -> Result<Channel, Refused>
+    ensures { returned result ≡ assigned c a }
 {
-    let status = c.status;
-    let refusal = assign_refusal(a, status);
-    if refusal != 0 {
-        return Returned {
+    match check(a, c.status) {
+        Ok(()) => Ok(with_carriers(c, a)),
+        Err(refusal) => Err(Refused {
             refusal,
             channel: c,
-        };
+        }),
     }
-    let channel = with_carriers(c, a);
-    Returned { refusal, channel }
 }

@@ -6,6 +6,7 @@ use bank_selection::features::collect_tracker_features;
 use channel_model::Channel;
 
 // Twelve zeros without a bank.
+#[tactic(auto, unfolding(channel_model::specs::Figures::figures))]
 pub fn figures(c: Channel) -> [f32; 12]
     ensures { result ≡ model.figures c }
 {

@@ -9,53 +9,46 @@ use channel_answer::values::unlock;
 use channel_model::{Carriers, Channel, Reading, Status};
 
 // The first target goes. The others stay, and are not read before the next assign sets them.
+#[tactic(auto, unfolding(channel_model::specs::Releasing::kept_carriers))]
 fn kept_carriers(a: Carriers) -> Carriers
     ensures { result ≡ kept_carriers a }
 {
-    let mut left = a;
-    left.target = 0.0;
-    left
+    Carriers { target: 0.0, ..a }
 }
 
 // No tracker locked or in use, no fade and none ended. Metrics, states and covariances stay.
+#[tactic(auto, unfolding(channel_model::specs::Opening::resting_bank))]
 fn rest(b: EkfTrackingBank) -> EkfTrackingBank
     ensures { result ≡ resting_bank b.max_fade_steps (unlocked b.t0) (unlocked b.t1) (unlocked b.t2) }
 {
-    let mut r = b;
-    r.t0 = unlock(b.t0);
-    r.t1 = unlock(b.t1);
-    r.t2 = unlock(b.t2);
-    r.active_idx = 3;
-    r.in_fade = false;
-    r.fade_counter = 0;
-    r.terminated_in_fade = false;
-    r
+    EkfTrackingBank {
+        active_idx: EkfTrackingBank::NONE,
+        in_fade: false,
+        fade_counter: 0,
+        terminated_in_fade: false,
+        ..b.map(unlock)
+    }
 }
 
 // Never refused, and an idle channel may be released again. The electron content stays.
+#[tactic(auto, unfolding(channel_model::specs::Releasing::released, channel_model::specs::Opening::idle_channel))]
 pub fn release(c: Channel) -> Channel
     ensures { result ≡ released c }
 {
-    let setup = c.setup;
-    let status = Status::Idle;
-    let carriers = kept_carriers(c.carriers);
-    let pll = unlock(c.pll);
-    let bank = rest(c.bank);
-    let reading = Reading {
-        phase: 0.0,
-        frequency: 0.0,
-        snr: 0.0,
-        electrons: c.reading.electrons,
-    };
     Channel {
-        setup,
-        status,
-        carriers,
-        pll,
-        bank,
+        setup: c.setup,
+        status: Status::Idle,
+        carriers: kept_carriers(c.carriers),
+        pll: unlock(c.pll),
+        bank: rest(c.bank),
         ever_locked: false,
         last_snr: 0.0,
         is_locked: false,
-        reading,
+        reading: Reading {
+            phase: 0.0,
+            frequency: 0.0,
+            snr: 0.0,
+            electrons: c.reading.electrons,
+        },
     }
 }

@@ -1,5 +1,6 @@
 -- Module 9: the channel. What open, assign, block, release and figures mean, and demand 1.
 pub mod Values
+pub mod Returns
 pub mod Refusals
 pub mod Opening
 pub mod Assigning

@@ -16,7 +16,7 @@ use Rattle.channel_model.specs.declared.Setup.{Setup}
 use Rattle.channel_model.specs.declared.Status.TheVariants.{Idle}
 use Rattle.channel_model.specs.declared.Carriers.{Carriers}
 use Rattle.channel_model.specs.declared.Channel.{Channel}
-use Rattle.channel_model.specs.declared.Returned.{Returned}
+use Rattle.channel_model.specs.Returns.{Returned}
 use Rattle.channel_model.specs.Values.{channel_of}
 use Rattle.channel_model.specs.Refusals.{first_cause}
 

@@ -1,6 +1,14 @@
-// Module 9 of the scope: the values of the channel and of its five calls, and in specs/ what the calls mean. There are no functions here.
+// Module 9 of the scope: the values of the channel and of its five calls, and in specs/ what the calls mean. The only functions here are between an enum and
+// the scope's numbers.
 #![tactic(auto)]
 
+pub mod refusal;
+
+ghost use Rattle.std.specs.Prelude.{◌≡◌};
+ghost use Rattle.channel_model.specs.Assigning.{idle};
+ghost use Rattle.channel_model.specs.Returns.{returned};
+
+use crate::refusal::Refusal;
 use bank_model::state::EkfTrackingBank;
 use tracker::state::Tracked;
 
@@ -29,10 +37,20 @@ pub struct Setup {
     pub two: bool,
 }
 
-#[derive(Clone, Copy)]
+#[derive(Clone, Copy, Debug, PartialEq, Eq)]
 pub enum Status {
     Idle,
     Assigned,
+}
+
+impl Status {
+    // Whether the channel waits for its carriers.
+    #[tactic(auto, unfolding(crate::specs::Assigning::idle))]
+    pub fn is_idle(self) -> bool
+        ensures { result ≡ idle self }
+    {
+        matches!(self, Status::Idle)
+    }
 }
 
 // What assign sets, in Hz.
@@ -68,7 +86,7 @@ pub struct Channel {
     pub reading: Reading,
 }
 
-// A block's answer. The tracker is 3 for none.
+// A block's answer, as the scope lists it and C reads it: so the refusal is its number, 0 for none, and the tracker is 3 for none.
 #[repr(C)]
 #[derive(Clone, Copy)]
 pub struct Answer {
@@ -85,11 +103,21 @@ pub struct Answer {
     pub metric: f64,
 }
 
-// What open and assign return: a refusal number, 0 where the call is accepted, and the channel.
+// What a refused open or assign gives back: the cause, and the channel that the scope's table names.
 #[derive(Clone, Copy)]
-pub struct Returned {
-    pub refusal: u64,
+pub struct Refused {
+    pub refusal: Refusal,
     pub channel: Channel,
+}
+
+// What open and assign return, as the scope's table has it: a number, 0 where the call is accepted, and a channel.
+pub fn number_and_channel(r: Result<Channel, Refused>) -> (u64, Channel)
+    ensures { result ≡ ((returned r).refusal, (returned r).channel) }
+{
+    match r {
+        Ok(channel) => (0, channel),
+        Err(refused) => (refused.refusal.number(), refused.channel),
+    }
 }
 
 // What block returns.

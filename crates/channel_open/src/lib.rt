@@ -2,68 +2,70 @@
 #![tactic(auto)]
 
 ghost use Rattle.std.specs.Prelude.{◌≡◌};
+ghost use Rattle.channel_model.specs.Returns.{number_said, returned};
 ghost use Rattle.channel_model.specs.Opening.{bad_rate, bad_ratio, open_refusal, modulation_of, decimated_rate, fade_steps, new_tracker, new_setup, resting_bank, no_carriers, new_channel, refused_settings, opened};
 
 use bank_model::state::EkfTrackingBank;
-use channel_model::{Carriers, Channel, Reading, Returned, Settings, Setup, Status};
+use channel_model::refusal::Refusal;
+use channel_model::{Carriers, Channel, Reading, Refused, Settings, Setup, Status};
 use ieee754::conversion::u64_to_f64;
 use ieee754::integral::to_usize;
 use tracker::state::{CarrierPllEkf, Tracked};
 use tracker_measurement::modulation::Modulation;
 
 // 1. The products are formed for a factor up to 4,096 only, so they fit whatever the caller brings.
+#[tactic(auto, unfolding(channel_model::specs::Opening::bad_rate))]
 fn bad_rate(rate: u64, factor: u64) -> bool
     ensures { result ≡ bad_rate rate factor }
 {
-    if factor < 1 {
-        return true;
-    }
-    if 4096 < factor {
+    if factor < 1 || 4096 < factor {
         return true;
     }
     !((1000 * factor <= rate) & (rate <= 100000 * factor))
 }
 
 // 4. Written so that a NaN is refused.
+#[tactic(auto, unfolding(channel_model::specs::Opening::bad_ratio))]
 fn bad_ratio(ratio: f64) -> bool
     ensures { result ≡ bad_ratio ratio }
 {
     !((0.25 <= ratio) & (ratio <= 4.0))
 }
 
-// The number of the first fault, 0 where there is none.
-fn open_refusal(s: Settings) -> u64
-    ensures { result ≡ open_refusal s }
+// The first of the four faults, where there is one.
+#[tactic(auto, unfolding(channel_model::specs::Opening::open_refusal, channel_model::specs::Refusals::first_cause))]
+fn check(s: Settings) -> Result<(), Refusal>
+    ensures { number_said result ≡ open_refusal s }
 {
     if bad_rate(s.rate, s.factor) {
-        return 1;
+        return Err(Refusal::Rate);
     }
     if 2 < s.modulation {
-        return 2;
+        return Err(Refusal::Modulation);
     }
     if 86400 < s.fade {
-        return 3;
+        return Err(Refusal::Fade);
     }
     if bad_ratio(s.ratio) {
-        return 4;
+        return Err(Refusal::Ratio);
     }
-    0
+    Ok(())
 }
 
 // 0 carrier, 1 BPSK, 2 and above QPSK.
+#[tactic(auto, unfolding(channel_model::specs::Opening::modulation_of))]
 pub fn modulation_of(n: u64) -> Modulation
     ensures { result ≡ modulation_of n }
 {
-    if n == 0 {
-        return Modulation::Carrier;
+    match n {
+        0 => Modulation::Carrier,
+        1 => Modulation::Bpsk,
+        _ => Modulation::Qpsk,
     }
-    if n == 1 {
-        return Modulation::Bpsk;
-    }
-    Modulation::Qpsk
 }
 
 // The rate of the decimated samples.
+#[tactic(auto, unfolding(channel_model::specs::Opening::decimated_rate, channel_model::specs::Opening::whole))]
 pub fn decimated_rate(rate: u64, factor: u64) -> f64
     ensures { result ≡ decimated_rate rate factor }
 {
@@ -71,6 +73,7 @@ pub fn decimated_rate(rate: u64, factor: u64) -> f64
 }
 
 // How many blocks a fade lasts.
+#[tactic(auto, unfolding(channel_model::specs::Opening::fade_steps, channel_model::specs::Opening::whole))]
 fn fade_steps(s: Settings) -> u64
     ensures { result ≡ fade_steps s }
 {
@@ -80,37 +83,36 @@ fn fade_steps(s: Settings) -> u64
 }
 
 // A tracker as opening makes each of the four.
+#[tactic(auto, unfolding(channel_model::specs::Opening::new_tracker, tracker::specs::State::initial_tracker))]
 fn new_tracker(s: Settings) -> Tracked
     ensures { result ≡ new_tracker s }
 {
     let rate = decimated_rate(s.rate, s.factor);
-    let modulation = modulation_of(s.modulation);
-    let t = CarrierPllEkf::new(rate, modulation);
-    let mut ekf = t.ekf;
-    let p = t.p;
-    ekf.tuning.adaptive_ekf = s.adaptive;
-    ekf.tuning.dual_lock = s.dual_lock;
-    ekf.tuning.frequency_ratio = s.ratio;
-    Tracked { ekf, p }
+    let mut t = CarrierPllEkf::new(rate, modulation_of(s.modulation));
+    t.ekf.tuning.adaptive_ekf = s.adaptive;
+    t.ekf.tuning.dual_lock = s.dual_lock;
+    t.ekf.tuning.frequency_ratio = s.ratio;
+    t
 }
 
 // A bank at rest with three trackers that are equal.
+#[tactic(auto, unfolding(channel_model::specs::Opening::resting_bank))]
 fn new_bank(s: Settings, h: Tracked) -> EkfTrackingBank
     ensures { result ≡ resting_bank (fade_steps s) h h h }
 {
-    let steps = fade_steps(s);
     EkfTrackingBank {
         t0: h,
         t1: h,
         t2: h,
-        active_idx: 3,
+        active_idx: EkfTrackingBank::NONE,
         in_fade: false,
         fade_counter: 0,
-        max_fade_steps: steps,
+        max_fade_steps: fade_steps(s),
         terminated_in_fade: false,
     }
 }
 
+#[tactic(auto, unfolding(channel_model::specs::Opening::new_setup))]
 fn new_setup(s: Settings) -> Setup
     ensures { result ≡ new_setup s }
 {
@@ -123,6 +125,7 @@ fn new_setup(s: Settings) -> Setup
 }
 
 // None until the channel is assigned.
+#[tactic(auto, unfolding(channel_model::specs::Opening::no_carriers))]
 fn no_carriers() -> Carriers
     ensures { result ≡ no_carriers }
 {
@@ -134,34 +137,31 @@ fn no_carriers() -> Carriers
     }
 }
 
+#[tactic(auto, unfolding(channel_model::specs::Opening::new_channel, channel_model::specs::Opening::idle_channel))]
 fn new_channel(s: Settings) -> Channel
     ensures { result ≡ new_channel s }
 {
-    let setup = new_setup(s);
-    let status = Status::Idle;
-    let carriers = no_carriers();
     let pll = new_tracker(s);
-    let bank = new_bank(s, pll);
-    let reading = Reading {
-        phase: 0.0,
-        frequency: 0.0,
-        snr: 0.0,
-        electrons: 0.0,
-    };
     Channel {
-        setup,
-        status,
-        carriers,
+        setup: new_setup(s),
+        status: Status::Idle,
+        carriers: no_carriers(),
         pll,
-        bank,
+        bank: new_bank(s, pll),
         ever_locked: false,
         last_snr: 0.0,
         is_locked: false,
-        reading,
+        reading: Reading {
+            phase: 0.0,
+            frequency: 0.0,
+            snr: 0.0,
+            electrons: 0.0,
+        },
     }
 }
 
 // What a refused open makes its channel of.
+#[tactic(auto, unfolding(channel_model::specs::Opening::refused_settings))]
 fn refused_settings() -> Settings
     ensures { result ≡ refused_settings }
 {
@@ -178,16 +178,16 @@ fn refused_settings() -> Settings
     }
 }
 
-// Settings of any kind are answered: by the channel that they ask for, or by a number and the refused settings' channel.
-pub fn open(s: Settings) -> Returned
-    ensures { result ≡ opened s }
+// Settings of any kind are answered: by the channel that they ask for, or by the cause and the refused settings' channel.
+#[tactic(auto, unfolding(channel_model::specs::Opening::opened))]
+pub fn open(s: Settings) -> Result<Channel, Refused>
+    ensures { returned result ≡ opened s }
 {
-    let refusal = open_refusal(s);
-    if refusal != 0 {
-        let t = refused_settings();
-        let channel = new_channel(t);
-        return Returned { refusal, channel };
+    match check(s) {
+        Ok(()) => Ok(new_channel(s)),
+        Err(refusal) => Err(Refused {
+            refusal,
+            channel: new_channel(refused_settings()),
+        }),
     }
-    let channel = new_channel(s);
-    Returned { refusal, channel }
 }

@@ -1,22 +1,20 @@
-// The refusals of a block, 7 to 12: one function for each test, then the number of the first that holds.
-ghost use Rattle.std.specs.Prelude.{◌≡◌, cond, not, ◌&&◌, ◌||◌, ltb, eqb};
+// The refusals of a block, 7 to 12: one function for each test, then the first that holds.
+ghost use Rattle.std.specs.Prelude.{◌≡◌, cond, not, ◌&&◌, ◌||◌, ltb, eqb, IfOk};
 ghost use Rattle.channel_samples.specs.Limits.{all_in_range};
+ghost use Rattle.survey.specs.Flags.{flag_number};
+ghost use Rattle.channel_model.specs.Returns.{number_said};
 ghost use Rattle.channel_model.specs.Refusals.{bad_length, block_refusal};
 
+use channel_model::refusal::Refusal;
 use channel_samples::limits::all_in_range;
+use survey::flag::Flag;
 
 // 8, of one list.
+#[tactic(auto, unfolding(channel_model::specs::Refusals::bad_length))]
 fn bad_length(n: usize) -> bool
     ensures { result ≡ bad_length n }
 {
     (n % 2 == 1) | (8192 < n)
-}
-
-// 8, of both.
-fn bad_lengths(n: usize, m: usize) -> bool
-    ensures { result ≡ (bad_length n || bad_length m) }
-{
-    bad_length(n) | bad_length(m)
 }
 
 // 9: samples with a flag that says there are none to be tracked.
@@ -30,44 +28,39 @@ fn not_empty(flag: u64, n: usize) -> bool
 fn bad_second(two: bool, n: usize, m: usize) -> bool
     ensures { result ≡ not (eqb m (cond two n 0)) }
 {
-    if two {
-        return m != n;
-    }
-    m != 0
+    m != if two { n } else { 0 }
 }
 
-// 11 does not hold.
-fn both_in_range(first: &[f32], second: &[f32]) -> bool
-    ensures { result ≡ (all_in_range first.now && all_in_range second.now) }
+// The flag of a block that is accepted, or the first cause against it. The lists are read only where their lengths are right.
+#[tactic(auto, unfolding(channel_model::specs::Refusals::block_refusal, channel_model::specs::Refusals::first_cause))]
+pub fn check_block(
+    flag: u64,
+    two: bool,
+    first: &[f32],
+    second: &[f32],
+    size: usize,
+) -> Result<Flag, Refusal>
+    ensures refusal { number_said result ≡ block_refusal two (record { flag = flag; first = first.now; second = second.now }) size }
+    ensures named { IfOk result (λ f. flag_number f ≡ flag) }
+    ensures windows { IfOk result (λ f. size ≡ 8192) }
 {
-    let good = all_in_range(first);
-    good & all_in_range(second)
-}
-
-// The lists are read only where their lengths are right.
-pub fn block_refusal(flag: u64, two: bool, first: &[f32], second: &[f32], size: usize) -> u64
-    ensures { result ≡ block_refusal two (record { flag = flag; first = first.now; second = second.now }) size }
-{
-    let lengths = bad_lengths(first.len(), second.len());
-    let samples = not_empty(flag, first.len());
-    let unlike = bad_second(two, first.len(), second.len());
-    if 4 < flag {
-        return 7;
+    let Ok(named) = Flag::try_from(flag) else {
+        return Err(Refusal::Flag);
+    };
+    if bad_length(first.len()) || bad_length(second.len()) {
+        return Err(Refusal::Length);
     }
-    if lengths {
-        return 8;
+    if not_empty(flag, first.len()) {
+        return Err(Refusal::NotEmpty);
     }
-    if samples {
-        return 9;
+    if bad_second(two, first.len(), second.len()) {
+        return Err(Refusal::Second);
     }
-    if unlike {
-        return 10;
-    }
-    if !both_in_range(first, second) {
-        return 11;
+    if !(all_in_range(first) && all_in_range(second)) {
+        return Err(Refusal::Component);
     }
     if size != 8192 {
-        return 12;
+        return Err(Refusal::Windows);
     }
-    0
+    Ok(named)
 }

@@ -3,6 +3,7 @@ ghost use Rattle.std.specs.Prelude.{◌≡◌};
 ghost use Rattle.channel_samples.specs.Limits.{in_range, all_in_range};
 
 // Whether a component may be tracked. A NaN fails both tests, so no third is needed.
+#[tactic(auto, using(crate::proofs::RangeTest::range_test))]
 pub fn in_range(x: f32) -> bool
     ensures { result ≡ in_range x }
 {
@@ -14,10 +15,8 @@ pub fn all_in_range(samples: &[f32]) -> bool
     ensures { result ≡ all_in_range samples.now }
 {
     let mut good = true;
-    let mut i = 0;
-    while i < samples.len() {
-        good = good & in_range(samples[i]);
-        i += 1;
+    for &x in samples {
+        good &= in_range(x);
     }
     good
 }

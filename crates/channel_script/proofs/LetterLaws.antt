@@ -1,15 +1,14 @@
--- Tables of letters: where a letter is not in a table, tables one after the other, and a list of letters as a loop goes through it. Assumes nothing.
-use mathlib.Core.Path.{◌≡◌, refl, ap}
-use mathlib.Core.Bool.{Bool, true, false, cond, ◌||◌, or-false, or_assoc}
-use mathlib.Core.List.{List, [], ◌∷◌, ◌++◌, map}
-use Prim.Native.Nat.{ℕ, ◌+◌, ◌≤◌, ◌<◌}
-use native.Mathlib.Numerals.{add-one}
+-- Tables of letters: what is found in them, and tables one after the other. Assumes nothing.
+use Rattle.std.proofs.Common.{◌≡◌, refl, ap, Bool, true, false, ◌||◌, cond, eqb, ℕ, List, [], ◌∷◌, ◌++◌, map, Option, Some, None, unwrap_or}
 use borrow.Author.Tests.{ne_eqb}
-use lib.Dec.{eqb}
-use lib.ListN.{length, get_or, drop, drop_of_length-le}
+use mathlib.Core.Bool.{or-false, or_assoc as bool_or_assoc}
+use native.Mathlib.Numerals.{add-one}
+use Rattle.std.proofs.Common.{◌+◌, ◌<◌, ◌≤◌, length, get_or, drop}
+use lib.ListN.{drop_of_length-le}
 use lib.Seq.{drop-cons}
+use Rattle.std.specs.Option.{option_or, option_map}
 use Rattle.sequences.specs.Folds.{some}
-use Rattle.channel_script.specs.Code.Letters.{stands_for}
+use Rattle.channel_script.specs.Code.Letters.{stands_for, found}
 
 -- a letter is none of a table's, as the last arm of a `match` says it
 abbrev pub NoneOf : {A : Type 0} → Type 0 → ℕ → List (ℕ × A) → Type 0
@@ -40,21 +39,42 @@ module _ {A : Type 0} (xs : List A) (i : ℕ) where
   unfolding some
   some_next d p m h =
       let e : drop i xs ≡ get_or xs i d ∷ drop (i + 1) xs = rw (add-one, drop-cons xs i d) in
-      rw e (or_assoc m (p (get_or xs i d)) (some p (drop (i + 1) xs)))
+      rw e (bool_or_assoc m (p (get_or xs i d)) (some p (drop (i + 1) xs)))
 
   pub some_end : (p : A → Bool) (m : Bool) → length xs ≤ i → (m || some p (drop i xs)) ≡ m
   unfolding some
   some_end p m h = rw (drop_of_length-le xs h) (or-false m)
 
--- what f makes of a table's entries: a letter that is in the table stands for f of what it stands for there
-pub stands_for_mapped : {A B : Type 0} (b : ℕ) (f : A → B) (t : List (ℕ × A)) (d : A) (other : B)
-    → stands_for b (map (λ (e : ℕ × A). (e.0, f e.1)) t) other ≡ cond (some (eqb b) (map (λ (e : ℕ × A). e.0) t)) (f (stands_for b t d)) other
-unfolding stands_for some
-stands_for_mapped b f [] d other = refl
-stands_for_mapped b f (e ∷ r) d other = rw (stands_for_mapped b f r d other) (go (eqb b e.0))
+-- what is found in a table, and in two
+pub stands_for_found : {A : Type 0} (b : ℕ) (t : List (ℕ × A)) (other : A) → stands_for b t other ≡ unwrap_or (found b t) other
+unfolding stands_for found
+stands_for_found b [] other = refl
+stands_for_found b (e ∷ r) other = rw (stands_for_found b r other) (go (eqb b e.0))
   where
-    go : (t : Bool)
-        → cond t (f e.1) (cond (some (eqb b) (map (λ (x : ℕ × _). x.0) r)) (f (stands_for b r d)) other)
-        ≡ cond (t || some (eqb b) (map (λ (x : ℕ × _). x.0) r)) (f (cond t e.1 (stands_for b r d))) other
+    go : (m : Bool) → cond m e.1 (unwrap_or (found b r) other) ≡ unwrap_or (cond m (Some e.1) (found b r)) other
+    go true = refl
+    go false = refl
+
+pub found_both : {A : Type 0} (b : ℕ) (t u : List (ℕ × A)) → found b (t ++ u) ≡ option_or (found b t) (found b u)
+unfolding found
+found_both b [] u = refl
+found_both b (e ∷ t) u = rw (found_both b t u) (go (eqb b e.0))
+  where
+    go : (m : Bool) → cond m (Some e.1) (option_or (found b t) (found b u)) ≡ option_or (cond m (Some e.1) (found b t)) (found b u)
+    go true = refl
+    go false = refl
+
+pub or_assoc : {A : Type 0} (x y z : Option A) → option_or (option_or x y) z ≡ option_or x (option_or y z)
+or_assoc None y z = refl
+or_assoc (Some a) y z = refl
+
+-- what f makes of a table's entries
+pub stands_for_mapped : {A B : Type 0} (b : ℕ) (f : A → B) (t : List (ℕ × A)) (other : B)
+    → stands_for b (map (λ (e : ℕ × A). (e.0, f e.1)) t) other ≡ unwrap_or (option_map f (found b t)) other
+unfolding stands_for found
+stands_for_mapped b f [] other = refl
+stands_for_mapped b f (e ∷ r) other = rw (stands_for_mapped b f r other) (go (eqb b e.0))
+  where
+    go : (m : Bool) → cond m (f e.1) (unwrap_or (option_map f (found b r)) other) ≡ unwrap_or (option_map f (cond m (Some e.1) (found b r))) other
     go true = refl
     go false = refl

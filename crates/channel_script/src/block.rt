@@ -1,9 +1,9 @@
 // A block of a script: its lists, the call, and what it leaves.
-ghost use Rattle.std.specs.Prelude.{◌≡◌, ◌<◌, ◌≤◌};
+ghost use Rattle.std.specs.Prelude.{◌≡◌};
 ghost use Rattle.std.specs.Float.Ieee.{ne};
 ghost use Rattle.sequences.specs.Folds.{some};
 ghost use Rattle.channel_model.specs.Blocks.{outcome};
-ghost use Rattle.channel_script.specs.Code.Letters.{stands_for};
+ghost use Rattle.channel_script.specs.Code.Letters.{found};
 ghost use Rattle.channel_script.specs.Code.Blocks as meant;
 
 use crate::session::{Lists, Seen};
@@ -20,6 +20,11 @@ pub struct Left {
     pub other: f32,
     pub touched: bool,
 }
+
+// The parts of a sample that no tracker follows: quarter turns 0, 1, 3, 2, 2, 3, 1, 0 and again.
+const COSINES: [f32; 8] = [1.0, 0.0, 0.0, -1.0, -1.0, 0.0, 0.0, 1.0];
+
+const SINES: [f32; 8] = [0.0, 1.0, -1.0, 0.0, 0.0, -1.0, 1.0, 0.0];
 
 // A block without samples.
 pub fn no_lists(flag: u64) -> Lists
@@ -38,28 +43,13 @@ pub fn no_lists(flag: u64) -> Lists
     }
 }
 
-// The parts of sample i of a list that no tracker follows: quarter turns 0, 1, 3, 2, 2, 3, 1, 0 and again.
-fn cosine(i: usize) -> f32
-    ensures { result ≡ meant.cosine i }
-{
-    let parts = [1.0f32, 0.0, 0.0, -1.0, -1.0, 0.0, 0.0, 1.0];
-    parts[i % 8]
-}
-
-fn sine(i: usize) -> f32
-    ensures { result ≡ meant.sine i }
-{
-    let parts = [0.0f32, 1.0, -1.0, 0.0, 0.0, -1.0, 1.0, 0.0];
-    parts[i % 8]
-}
-
 fn jumps() -> [f32; 8194]
     ensures { result ≡ meant.jumps_from 4096 0 }
 {
     let mut list = [0.0f32; 8194];
     for i in 0..4096 {
-        list[2 * i] = cosine(i);
-        list[2 * i + 1] = sine(i);
+        list[2 * i] = COSINES[i % 8];
+        list[2 * i + 1] = SINES[i % 8];
     }
     list
 }
@@ -84,21 +74,14 @@ fn second_list(l: Lists) -> [f32; 8194]
     list
 }
 
-fn at_most(n: usize, most: usize) -> usize
-    ensures { (result ≤ most) × (result ≤ n) × (result < n → result ≡ most) }
-{
-    if n < most { n } else { most }
-}
-
 // Window memory is lent as sevens.
+// Not `any`: its answer, as a test of the whole list, was not proved to be this one.
 fn is_touched(windows: &[f64]) -> bool
     ensures { result ≡ some (λ w. ne w meant.seven) windows.now }
 {
     let mut touched = false;
-    let mut i = 0;
-    while i < windows.len() {
-        touched = touched | (windows[i] != 7.0);
-        i += 1;
+    for w in windows {
+        touched |= *w != 7.0;
     }
     touched
 }
@@ -110,30 +93,32 @@ fn with_mark(marks: u64, locked: bool) -> u64
     if locked { shifted + 1 } else { shifted }
 }
 
-pub fn with_block(e: Seen, o: Left) -> Seen
-    ensures { result ≡ meant.with_block e o }
-{
-    let answer = o.answer;
-    let before = e.answer;
-    let marks = with_mark(e.marks, answer.locked);
-    let mut f = e;
-    f.answer = answer;
-    f.before = before;
-    f.marks = marks;
-    f.re = o.re;
-    f.im = o.im;
-    f.other = o.other;
-    f.touched = o.touched;
-    f
+impl Left {
+    // What was seen, with this block as the last one.
+    #[tactic(auto, unfolding(crate::specs::Code::Blocks::with_block))]
+    pub fn seen_after(self, e: Seen) -> Seen
+        ensures { result ≡ meant.with_block e self }
+    {
+        Seen {
+            answer: self.answer,
+            before: e.answer,
+            marks: with_mark(e.marks, self.answer.locked),
+            re: self.re,
+            im: self.im,
+            other: self.other,
+            touched: self.touched,
+            ..e
+        }
+    }
 }
 
 // A block with as much of these lists and of this memory as is asked for.
 fn lent(c: Channel, l: Lists, first: &mut [f32], second: &mut [f32], windows: &mut [f64]) -> Blocked
     ensures { outcome result first.new second.new windows.new ≡ meant.lent_block c l first.old second.old windows.old }
 {
-    let n = at_most(l.first, first.len());
-    let m = at_most(l.second, second.len());
-    let k = at_most(l.windows, windows.len());
+    let n = l.first.min(first.len());
+    let m = l.second.min(second.len());
+    let k = l.windows.min(windows.len());
     block(
         c,
         l.flag,
@@ -150,57 +135,55 @@ pub fn run_block(c: Channel, l: Lists) -> Left
     let mut second = second_list(l);
     let mut windows = [7.0; 8193];
     let b = lent(c, l, &mut first, &mut second, &mut windows);
-    let channel = b.channel;
-    let answer = b.answer;
-    let re = first[0];
-    let im = first[1];
-    let other = second[1];
-    let touched = is_touched(&windows);
     Left {
-        channel,
-        answer,
-        re,
-        im,
-        other,
-        touched,
+        channel: b.channel,
+        answer: b.answer,
+        re: first[0],
+        im: first[1],
+        other: second[1],
+        touched: is_touched(&windows),
     }
 }
 
 fn sample(flag: u64, re: f32, im: f32) -> Lists
     ensures { result ≡ meant.sample flag re im }
 {
-    let mut l = no_lists(flag);
-    l.first = 2;
-    l.re = re;
-    l.im = im;
-    l
+    Lists {
+        first: 2,
+        re,
+        im,
+        ..no_lists(flag)
+    }
 }
 
 fn shaken() -> Lists
     ensures { result ≡ meant.shaken }
 {
-    let mut l = no_lists(1);
-    l.first = 8192;
-    l.jumps = true;
-    l
+    Lists {
+        first: 8192,
+        jumps: true,
+        ..no_lists(1)
+    }
 }
 
 // (1, 0) and (0, 1).
 fn doubled(flag: u64) -> Lists
     ensures { result ≡ meant.doubled flag }
 {
-    let mut l = sample(flag, 1.0, 0.0);
-    l.second = 2;
-    l.other = 0.0;
-    l.fill = 1.0;
-    l
+    Lists {
+        second: 2,
+        other: 0.0,
+        fill: 1.0,
+        ..sample(flag, 1.0, 0.0)
+    }
 }
 
-// The block that a letter stands for; p is the block that is set.
-pub fn lists_of(planned: Lists, letter: u8) -> Lists
-    ensures { result ≡ stands_for letter (meant.block_letters planned) planned }
+// The block that a letter stands for, if it is one of a block; p is the block that is set.
+#[tactic(auto, using(std::proofs::lemmas::Bool::Decides::nat_tests), unfolding(crate::specs::Code::Letters::found))]
+pub fn lists_of(planned: Lists, letter: u8) -> Option<Lists>
+    ensures { result ≡ found letter (meant.block_letters planned) }
 {
-    match letter {
+    Some(match letter {
         b'p' => planned,
         b'0' => no_lists(0),
         b'1' => no_lists(1),
@@ -216,6 +199,6 @@ pub fn lists_of(planned: Lists, letter: u8) -> Lists
         b'j' => shaken(),
         b'd' => doubled(1),
         b'D' => doubled(0),
-        _ => planned,
-    }
+        _ => return None,
+    })
 }

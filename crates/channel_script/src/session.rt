@@ -1,16 +1,16 @@
 // A channel between two calls, and the calls.
 ghost use Rattle.std.specs.Prelude.{◌≡◌};
-ghost use Rattle.channel_model.specs.Answers.{refused_answer};
 ghost use Rattle.channel_model.specs.Releasing as model;
-ghost use Rattle.channel_script.specs.Code.Letters.{stands_for};
+ghost use Rattle.channel_model.specs.Returns.{returned};
 ghost use Rattle.channel_script.specs.Code.Playing as meant;
 
-use crate::block::{lists_of, no_lists, run_block, with_block};
-use crate::letters::is_one_of;
+use crate::block::{lists_of, no_lists, run_block};
 use channel_control::assign::assign;
 use channel_control::figures::figures;
 use channel_control::release::release;
-use channel_model::{Answer, Carriers, Channel, Returned, Settings};
+use channel_model::{Answer, Carriers, Channel, Refused, Settings, number_and_channel};
+use channel_open::open;
+use channel_quiet_block::quiet::refused_answer;
 
 // A block to come: its flag, how many numbers its lists and its window memory have, and what stands in them. The first list begins with re and
 // im, the second with other; all else in the lists is fill. With jumps the first list has 4,096 samples that no tracker follows.
@@ -95,191 +95,158 @@ fn first_carriers() -> Carriers
     }
 }
 
-fn no_answer() -> Answer
-    ensures { result ≡ refused_answer 0 }
-{
-    Answer {
-        refusal: 0,
-        locked: false,
-        tracker: 3,
-        in_fade: false,
-        fade_count: 0,
-        ended: false,
-        phase: 0.0,
-        frequency: 0.0,
-        snr: 0.0,
-        electrons: 0.0,
-        metric: 0.0,
-    }
-}
-
-fn nothing_seen(number: u64) -> Seen
-    ensures { result ≡ meant.nothing_seen number }
-{
-    let answer = no_answer();
-    Seen {
-        number,
-        answer,
-        before: answer,
-        held: answer,
-        marks: 0,
-        re: 0.0,
-        im: 0.0,
-        other: 0.0,
-        touched: false,
-        figures: [0.0; 12],
-    }
-}
-
 fn first_plan() -> Plan
     ensures { result ≡ meant.first_plan }
 {
-    let settings = first_settings();
-    let carriers = first_carriers();
-    let lists = no_lists(0);
     Plan {
-        settings,
-        carriers,
-        lists,
+        settings: first_settings(),
+        carriers: first_carriers(),
+        lists: no_lists(0),
         place: 3,
     }
 }
 
-// Before the first call: a channel that was opened with the settings above.
-pub fn new_session() -> Session
-    ensures { result ≡ meant.first_session }
-{
-    let plan = first_plan();
-    let r = channel_open::open(plan.settings);
-    let channel = r.channel;
-    let seen = nothing_seen(r.refusal);
-    Session {
-        known: true,
-        plan,
-        seen,
-        channel,
+impl Seen {
+    fn nothing(number: u64) -> Seen
+        ensures { result ≡ meant.nothing_seen number }
+    {
+        let answer = refused_answer(0);
+        Seen {
+            number,
+            answer,
+            before: answer,
+            held: answer,
+            marks: 0,
+            re: 0.0,
+            im: 0.0,
+            other: 0.0,
+            touched: false,
+            figures: [0.0; 12],
+        }
+    }
+
+    // The answer is held.
+    fn holding(self) -> Seen
+        ensures { result ≡ meant.holding self }
+    {
+        Seen {
+            held: self.answer,
+            ..self
+        }
+    }
+
+    // The answer that is held comes to the place of the one before.
+    fn bringing(self) -> Seen
+        ensures { result ≡ meant.bringing self }
+    {
+        Seen {
+            before: self.held,
+            ..self
+        }
+    }
+
+    fn remembering(self, figures: [f32; 12]) -> Seen
+        ensures { result ≡ meant.remembering self figures }
+    {
+        Seen { figures, ..self }
     }
 }
 
-fn with_number(e: Seen, number: u64) -> Seen
-    ensures { result ≡ meant.with_number e number }
-{
-    let mut f = e;
-    f.number = number;
-    f
-}
-
-// The channel that open or assign returned, and its number.
-fn returned(s: Session, r: Returned) -> Session
-    ensures { result ≡ meant.after_return s r }
-{
-    let channel = r.channel;
-    let seen = with_number(s.seen, r.refusal);
-    let mut t = s;
-    t.channel = channel;
-    t.seen = seen;
-    t
-}
-
-fn released(s: Session) -> Session
-    ensures { result ≡ meant.session_of s s.seen (model.released s.channel) }
-{
-    let channel = release(s.channel);
-    let mut t = s;
-    t.channel = channel;
-    t
-}
-
-// The answer is held.
-fn holding(e: Seen) -> Seen
-    ensures { result ≡ meant.holding e }
-{
-    let a = e.answer;
-    let mut f = e;
-    f.held = a;
-    f
-}
-
-// The answer that is held comes to the place of the one before.
-fn bringing(e: Seen) -> Seen
-    ensures { result ≡ meant.bringing e }
-{
-    let a = e.held;
-    let mut f = e;
-    f.before = a;
-    f
-}
-
-fn remembering(e: Seen, figures: [f32; 12]) -> Seen
-    ensures { result ≡ meant.remembering e figures }
-{
-    let mut f = e;
-    f.figures = figures;
-    f
-}
-
-fn with_seen(s: Session, seen: Seen) -> Session
-    ensures { result ≡ meant.session_of s seen s.channel }
-{
-    let mut t = s;
-    t.seen = seen;
-    t
-}
-
-fn unknown(s: Session) -> Session
-    ensures { result ≡ meant.unknown s }
-{
-    let mut t = s;
-    t.known = false;
-    t
-}
-
-fn fed(s: Session, l: Lists) -> Session
-    ensures { result ≡ meant.after_block s l }
-{
-    let o = run_block(s.channel, l);
-    let seen = with_block(s.seen, o);
-    let channel = o.channel;
-    let mut t = s;
-    t.channel = channel;
-    t.seen = seen;
-    t
-}
-
-// A letter that stands for a block, or for nothing.
-fn block_called(s: Session, letter: u8) -> Session
-    ensures { result ≡ stands_for letter (meant.blocks_after s) (meant.unknown s) }
-{
-    if is_one_of(letter, b"p01234scqbnojdD") {
-        let l = lists_of(s.plan.lists, letter);
-        return fed(s, l);
+impl Session {
+    // Before the first call: a channel that was opened with the settings above.
+    #[tactic(auto, unfolding(crate::specs::Code::Playing::first_session))]
+    pub fn new() -> Session
+        ensures { result ≡ meant.first_session }
+    {
+        let plan = first_plan();
+        let (number, channel) = number_and_channel(open(plan.settings));
+        Session {
+            known: true,
+            plan,
+            seen: Seen::nothing(number),
+            channel,
+        }
     }
-    unknown(s)
-}
 
-fn called(s: Session, letter: u8) -> Session
-    ensures { result ≡ meant.after_letter s letter }
-{
-    match letter {
-        b'O' => returned(s, channel_open::open(s.plan.settings)),
-        b'a' => returned(s, assign(s.channel, s.plan.carriers)),
-        b'r' => released(s),
-        b'h' => with_seen(s, holding(s.seen)),
-        b'H' => with_seen(s, bringing(s.seen)),
-        b'y' => with_seen(s, remembering(s.seen, figures(s.channel))),
-        _ => block_called(s, letter),
+    // The channel that open or assign returned, and its number.
+    fn returned(self, r: Result<Channel, Refused>) -> Session
+        ensures { result ≡ meant.after_return self (returned r) }
+    {
+        let (number, channel) = number_and_channel(r);
+        let seen = Seen {
+            number,
+            ..self.seen
+        };
+        Session {
+            channel,
+            seen,
+            ..self
+        }
     }
-}
 
-// One call after the other.
-pub fn played(s: Session, script: &[u8]) -> Session
-    ensures { result ≡ meant.after_script s script.now }
-{
-    let mut t = s;
-    let mut i = 0;
-    while i < script.len() {
-        t = called(t, script[i]);
-        i += 1;
+    fn released(self) -> Session
+        ensures { result ≡ meant.session_of self self.seen (model.released self.channel) }
+    {
+        Session {
+            channel: release(self.channel),
+            ..self
+        }
     }
-    t
+
+    fn with_seen(self, seen: Seen) -> Session
+        ensures { result ≡ meant.session_of self seen self.channel }
+    {
+        Session { seen, ..self }
+    }
+
+    fn unknown(self) -> Session
+        ensures { result ≡ meant.unknown self }
+    {
+        Session {
+            known: false,
+            ..self
+        }
+    }
+
+    #[tactic(auto, unfolding(crate::specs::Code::Playing::after_block))]
+    fn fed(self, l: Lists) -> Session
+        ensures { result ≡ meant.after_block self l }
+    {
+        let o = run_block(self.channel, l);
+        Session {
+            channel: o.channel,
+            seen: o.seen_after(self.seen),
+            ..self
+        }
+    }
+
+    // A letter that stands for none of these is one of a block, or stands for nothing.
+    fn called(self, letter: u8) -> Session
+        ensures { result ≡ meant.after_letter self letter }
+    {
+        match letter {
+            b'O' => self.returned(open(self.plan.settings)),
+            b'a' => self.returned(assign(self.channel, self.plan.carriers)),
+            b'r' => self.released(),
+            b'h' => self.with_seen(self.seen.holding()),
+            b'H' => self.with_seen(self.seen.bringing()),
+            b'y' => self.with_seen(self.seen.remembering(figures(self.channel))),
+            _ => match lists_of(self.plan.lists, letter) {
+                Some(l) => self.fed(l),
+                None => self.unknown(),
+            },
+        }
+    }
+
+    // One call after the other.
+    // Not `fold`: what its closure makes of a whole session was not proved.
+    pub fn played(self, script: &[u8]) -> Session
+        ensures { result ≡ meant.after_script self script.now }
+    {
+        let mut s = self;
+        for letter in script {
+            s = s.called(*letter);
+        }
+        s
+    }
 }

@@ -1,6 +1,6 @@
 -- What a block's line does, from what its steps ensure. Assumes nothing.
 use mathlib.Core.Path.{◌≡◌, refl, sym, ap, ◌∙◌}
-use mathlib.Core.Bool.{Bool, true, false, cond, ◌&&◌}
+use mathlib.Core.Bool.{Bool, false, cond, ◌&&◌}
 use mathlib.Core.List.{List, [], ◌∷◌, ◌++◌, map}
 use Prim.Native.Nat.{ℕ, zero, suc, ◌+◌, min}
 use native.Mathlib.Nat.{add-zero, zero-min, suc-min-suc}
@@ -9,7 +9,7 @@ use lib.ListN.{length, get_or, take, drop, length-append, length-map}
 use lib.Seq.{take-nil, drop-nil, drop-drop, get_or-drop}
 use lib.Ieee.{Float, binary32, to_bits}
 use Rattle.sequences.specs.Folds.{fold}
-use Rattle.sequences.proofs.Choices.{cond_yes, cond_no}
+use Rattle.std.specs.Prelude.{Option, Some, None}
 use Rattle.vectors.specs.Code.Words.{mixed32}
 use Rattle.vectors.specs.Code.Lines.{number_at, same_numbers, stands_at, ends_at}
 use Rattle.channel_model.specs.declared.Answer.{Answer}
@@ -23,7 +23,7 @@ use Rattle.channel_words.proofs.StandingLaws.{four_stand}
 use Rattle.channel_vectors.specs.declared.calls.After.{After}
 use Rattle.channel_vectors.specs.Code.Calls.{after, is_rest}
 use Rattle.channel_vectors.specs.declared.lists.Lists.{Lists}
-use Rattle.channel_vectors.specs.Code.Blocks.{blocked_in, window_mix, Given, given, listed_words, ruled_words, left_words, answered, made_block, block_line}
+use Rattle.channel_vectors.specs.Code.Blocks.{blocked_in, window_mix, Given, not_taken, given, listed_words, ruled_words, left_words, answered, made_block, block_line}
 use Rattle.channel_vectors.specs.Code.Lists.{given_in}
 use Rattle.channel_vectors.proofs.RestLaws.{rest_is}
 
@@ -88,16 +88,6 @@ ruled_stands i ws a f s v {w} ew ea ex ey ez e0 e1 e2 =
     ∙ sym (stands_at_both 0 11 (answer_words a) three w refl))
     e2
 
--- of either kind
-module _ (i : ℕ) (ws : List ℕ) (a : Answer) (f s v : List Float) {ruled t : Bool} where
-  pub left_ruled : ruled ≡ true → t ≡ is_rest i (ruled_words a f s v) ws → t ≡ is_rest i (left_words ruled a f s v) ws
-  unfolding left_words
-  left_ruled e h = h ∙ ap (λ (b : Bool). is_rest i (left_words b a f s v) ws) (sym e)
-
-  pub left_listed : ruled ≡ false → t ≡ is_rest i (listed_words a f s v) ws → t ≡ is_rest i (left_words ruled a f s v) ws
-  unfolding left_words
-  left_listed e h = h ∙ ap (λ (b : Bool). is_rest i (left_words b a f s v) ws) (sym e)
-
 -- ---- the call and the answer
 
 -- the rest of the rest
@@ -123,16 +113,16 @@ made_block_is ruled ws i c first second w r f s v er ef es eo et =
 
 -- ---- the line
 
-module _ (ruled : Bool) (ws : List ℕ) (c : Channel) (w : List Float) (r : Lists) (f s : List Float) (e : given_in r f s ≡ given ruled ws) where
-  pub not_taken_lem : r.taken ≡ false → ◌≡◌ {A = After × List Float} (after c false, w) (block_line ruled ws c w)
-  unfolding block_line given_in
+module _ (ruled : Bool) (ws : List ℕ) (c : Channel) (w : List Float) (f s : List Float) {o : Option Lists} (e : given_in o f s ≡ given ruled ws) where
+  pub not_taken_lem : o ≡ None → ◌≡◌ {A = After × List Float} (after c false, w) (block_line ruled ws c w)
+  unfolding block_line given_in not_taken
   not_taken_lem h =
-      sym (cond_no (made_block ruled ws r.behind c (take r.first f) (take r.second s) w) (after c false, w) h)
+      ap (λ (z : Option Lists). cond (given_in z f s).taken (made_block ruled ws (given_in z f s).behind c (given_in z f s).first (given_in z f s).second w) (after c false, w)) (sym h)
       ∙ ap (λ (g : Given). cond g.taken (made_block ruled ws g.behind c g.first g.second w) (after c false, w)) e
 
-  pub line_taken_lem : {x : After × List Float} → r.taken ≡ true → x ≡ made_block ruled ws r.behind c (take r.first f) (take r.second s) w → x ≡ block_line ruled ws c w
+  pub line_taken_lem : (r : Lists) {x : After × List Float} → o ≡ Some r → x ≡ made_block ruled ws r.behind c (take r.first f) (take r.second s) w → x ≡ block_line ruled ws c w
   unfolding block_line given_in
-  line_taken_lem h h' =
+  line_taken_lem r h h' =
       h'
-      ∙ sym (cond_yes (made_block ruled ws r.behind c (take r.first f) (take r.second s) w) (after c false, w) h)
+      ∙ ap (λ (z : Option Lists). cond (given_in z f s).taken (made_block ruled ws (given_in z f s).behind c (given_in z f s).first (given_in z f s).second w) (after c false, w)) (sym h)
       ∙ ap (λ (g : Given). cond g.taken (made_block ruled ws g.behind c g.first g.second w) (after c false, w)) e

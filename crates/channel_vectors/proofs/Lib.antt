@@ -4,4 +4,3 @@ pub mod RestLaws
 pub mod CallCases
 pub mod BlockCases
 pub mod ListCases
-pub mod LineCases

@@ -1,9 +1,9 @@
 -- The lists that a block's line gives, from what the steps ensure. Assumes nothing.
-use mathlib.Core.Path.{◌≡◌, sym, ap, ◌∙◌, subst}
+use mathlib.Core.Path.{◌≡◌, sym, ap, ◌∙◌}
 use mathlib.Core.Bool.{Bool, true, false, ◌&&◌}
 use mathlib.Core.List.{List, ◌++◌}
 use Prim.Native.Nat.{ℕ, ◌+◌, ◌*◌, ◌≤◌, ◌<◌}
-use native.Mathlib.Omega.{arith}
+use Rattle.std.specs.Prelude.{Some, None}
 use borrow.Author.Tests.{le-leb, lt-leb}
 use lib.Dec.{leb}
 use lib.ListN.{length, take, drop}
@@ -14,9 +14,8 @@ use Rattle.vectors.specs.Code.Lines.{number_at, float32s_at}
 use Rattle.channel_words.specs.declared.rules.Rule.{Rule}
 use Rattle.channel_words.specs.Code.Arguments.{rule_at}
 use Rattle.channel_words.specs.Code.Rules.{ruled_samples}
-use Rattle.channel_vectors.specs.declared.lists.Lists.{Lists}
-use Rattle.channel_vectors.specs.Code.Blocks.{Given, not_taken, listed, by_rule, given}
-use Rattle.channel_vectors.specs.Code.Lists.{no_lists, given_in}
+use Rattle.channel_vectors.specs.Code.Blocks.{Given, listed, by_rule}
+use Rattle.channel_vectors.specs.Code.Lists.{given_in}
 
 abbrev taken : List Float → List Float → ℕ → Given
 taken f s i = record { taken = true; first = f; second = s; behind = i }
@@ -25,18 +24,14 @@ taken f s i = record { taken = true; first = f; second = s; behind = i }
 again : (n : ℕ) (l f : List Float) → n ≤ length l → length f ≡ length (take n l) → take n (f ++ drop n l) ≡ f
 again n l f h e = take_at f (drop n l) n (e ∙ length-take-le n l h)
 
-nothing : (f s : List Float) {r : Lists} → r ≡ no_lists → given_in r f s ≡ not_taken
-unfolding given_in no_lists not_taken
-nothing f s e = ap (λ (r : Lists). given_in r f s) e
-
 -- ---- number by number
 
 module _ (ws : List ℕ) {n : ℕ} (en : n ≡ number_at 2 ws) where
-  pub first_long : (f s : List Float) {r : Lists} → 8200 < n → r ≡ no_lists → given_in r f s ≡ listed ws
-  unfolding listed
-  first_long f s h e =
+  pub first_long : (f s : List Float) → 8200 < n → given_in None f s ≡ listed ws
+  unfolding listed given_in
+  first_long f s h =
       let k : leb (number_at 2 ws) 8200 ≡ false = ap (λ (z : ℕ). leb z 8200) (sym en) ∙ lt-leb n 8200 h in
-      nothing f s e ∙ rw k
+      rw k
 
   module _ {m : ℕ} (em : m ≡ number_at (3 + n) ws) (h : n ≤ 8200) where
     at_second : number_at (3 + number_at 2 ws) ws ≡ m
@@ -47,14 +42,14 @@ module _ (ws : List ℕ) {n : ℕ} (en : n ≡ number_at 2 ws) where
         let t : leb (number_at 2 ws) 8200 ≡ true = ap (λ (z : ℕ). leb z 8200) (sym en) ∙ le-leb n 8200 h in
         rw (t, at_second) e
 
-    pub second-long : (f s : List Float) {r : Lists} → 8200 < m → r ≡ no_lists → given_in r f s ≡ listed ws
-    unfolding listed
-    second-long f s k e = nothing f s e ∙ rw (both (lt-leb m 8200 k))
+    pub second-long : (f s : List Float) → 8200 < m → given_in None f s ≡ listed ws
+    unfolding listed given_in
+    second-long f s k = rw (both (lt-leb m 8200 k))
 
     pub listed-is : (A B f s : List Float) → m ≤ 8200 → n ≤ length A → m ≤ length B
         → f ≡ float32s_at 3 (length (take n A)) ws → length f ≡ length (take n A)
         → s ≡ float32s_at (4 + n) (length (take m B)) ws → length s ≡ length (take m B)
-        → given_in (record { taken = true; first = n; second = m; behind = 4 + n + m }) (f ++ drop n A) (s ++ drop m B) ≡ listed ws
+        → given_in (Some (record { first = n; second = m; behind = 4 + n + m })) (f ++ drop n A) (s ++ drop m B) ≡ listed ws
     unfolding listed given_in
     listed-is A B f s k ha hb ef lf es ls =
         let gf : f ≡ float32s_at 3 (number_at 2 ws) ws = ef ∙ ap (λ (z : ℕ). float32s_at 3 z ws) (length-take-le n A ha ∙ en) in
@@ -66,11 +61,11 @@ module _ (ws : List ℕ) {n : ℕ} (en : n ≡ number_at 2 ws) where
 -- ---- by a rule
 
 module _ (ws : List ℕ) {n : ℕ} (en : n ≡ number_at 2 ws) where
-  pub first_over : (f s : List Float) {r : Lists} → 4096 < n → r ≡ no_lists → given_in r f s ≡ by_rule ws
-  unfolding by_rule
-  first_over f s h e =
+  pub first_over : (f s : List Float) → 4096 < n → given_in None f s ≡ by_rule ws
+  unfolding by_rule given_in
+  first_over f s h =
       let k : leb (number_at 2 ws) 4096 ≡ false = ap (λ (z : ℕ). leb z 4096) (sym en) ∙ lt-leb n 4096 h in
-      nothing f s e ∙ rw k
+      rw k
 
   module _ {m : ℕ} (em : m ≡ number_at 9 ws) (h : n ≤ 4096) where
     few : {b : Bool} → leb m 4096 ≡ b → (leb (number_at 2 ws) 4096 && leb (number_at 9 ws) 4096) ≡ b
@@ -78,31 +73,15 @@ module _ (ws : List ℕ) {n : ℕ} (en : n ≡ number_at 2 ws) where
         let t : leb (number_at 2 ws) 4096 ≡ true = ap (λ (z : ℕ). leb z 4096) (sym en) ∙ le-leb n 4096 h in
         rw (t, ← em) e
 
-    pub second-over : (f s : List Float) {r : Lists} → 4096 < m → r ≡ no_lists → given_in r f s ≡ by_rule ws
-    unfolding by_rule
-    second-over f s k e = nothing f s e ∙ rw (few (lt-leb m 4096 k))
+    pub second-over : (f s : List Float) → 4096 < m → given_in None f s ≡ by_rule ws
+    unfolding by_rule given_in
+    second-over f s k = rw (few (lt-leb m 4096 k))
 
     pub ruled-is : (A B f s : List Float) {p q : Rule} → m ≤ 4096 → 2 * n ≤ length A → 2 * m ≤ length B
         → p ≡ rule_at 3 ws → f ≡ ruled_samples p n → length f ≡ length (take (2 * n) A)
         → q ≡ rule_at 10 ws → s ≡ ruled_samples q m → length s ≡ length (take (2 * m) B)
-        → given_in (record { taken = true; first = 2 * n; second = 2 * m; behind = 16 }) (f ++ drop (2 * n) A) (s ++ drop (2 * m) B) ≡ by_rule ws
+        → given_in (Some (record { first = 2 * n; second = 2 * m; behind = 16 })) (f ++ drop (2 * n) A) (s ++ drop (2 * m) B) ≡ by_rule ws
     unfolding by_rule given_in
     ruled-is A B f s k ha hb ep ef lf eq es ls =
         (λ i. taken ((again (2 * n) A f ha lf ∙ ef ∙ (λ j. ruled_samples (ep j) (en j))) i) ((again (2 * m) B s hb ls ∙ es ∙ (λ j. ruled_samples (eq j) (em j))) i) 16)
         ∙ sym (cond_yes _ _ (few (le-leb m 4096 k)))
-
--- ---- of either kind
-
-module _ (ws : List ℕ) {ruled : Bool} {g : Given} where
-  pub given_ruled : ruled ≡ true → g ≡ by_rule ws → g ≡ given ruled ws
-  unfolding given
-  given_ruled e h = h ∙ ap (λ (b : Bool). given b ws) (sym e)
-
-  pub given_listed : ruled ≡ false → g ≡ listed ws → g ≡ given ruled ws
-  unfolding given
-  given_listed e h = h ∙ ap (λ (b : Bool). given b ws) (sym e)
-
--- no list is long
-pub none_long : {r : Lists} → r ≡ no_lists → (r.first ≤ 8200) × (r.second ≤ 8200)
-unfolding no_lists
-none_long e = subst (λ (r : Lists). (r.first ≤ 8200) × (r.second ≤ 8200)) (sym e) (omega arith)

@@ -1,31 +1,13 @@
 -- The window memory as a line sets it. Assumes nothing.
 use mathlib.Core.Path.{◌≡◌, sym, ap, ◌∙◌}
-use mathlib.Core.List.{List, [], ◌∷◌, ◌++◌}
-use Prim.Native.Nat.{ℕ, ◌+◌, ◌*◌, ◌/◌, ◌%◌, ◌<◌, ◌≤◌}
+use Prim.Native.Nat.{ℕ, ◌+◌, ◌*◌, ◌/◌, ◌%◌}
 use native.Mathlib.Nat.{mod-add-div, add-mul-mod_self_left}
-use native.Mathlib.Numerals.{add-one}
 use native.Mathlib.Omega.{arith}
-use lib.ListN.{length, take, set, replicate, replicate-append-replicate}
-use lib.Seq.{take-suc-set, take_all}
 use lib.Ieee.{Float, of_int, binary64}
 use lib.IntN.{pos}
 use Rattle.ieee754.specs.Binary64.{over}
 use Rattle.channel_model.specs.Opening.{whole}
 use Rattle.channel_vectors.specs.Code.Memory.{sixty_fourths}
-
--- a loop that stores one value: one turn, and the end
-module _ (x : List Float) (k : ℕ) (v : Float) where
-  pub clear_next : k < length x → take k x ≡ replicate k v → take (k + 1) (set x k v) ≡ replicate (k + 1) v
-  clear_next h s =
-      ap (λ (n : ℕ). take n (set x k v)) (add-one k)
-      ∙ take-suc-set x k v h
-      ∙ ap (λ (l : List Float). l ++ (v ∷ [])) s
-      ∙ replicate-append-replicate k 1 v
-
-  pub clear_end : (n : ℕ) → length x ≡ n → n ≤ k → k ≤ n → take k x ≡ replicate k v → x ≡ replicate n v
-  clear_end n l a b s =
-      let e : k ≡ n = omega arith in
-      sym (take_all k x (omega arith)) ∙ s ∙ ap (λ (m : ℕ). replicate m v) e
 
 -- cut before the product and the sum, or after them
 pub cut_first : (s i : ℕ) → (i % 64 * 7 + s % 64) % 64 ≡ (7 * i + s) % 64

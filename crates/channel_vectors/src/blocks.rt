@@ -1,5 +1,5 @@
 // Lines that are block calls. The lists stand in local arrays, of which as much is lent to the call as the line gives.
-ghost use Rattle.std.specs.Prelude.{◌≡◌, ◌≤◌, min, length};
+ghost use Rattle.std.specs.Prelude.{◌≡◌, ◌≤◌, length};
 ghost use Rattle.channel_model.specs.Blocks.{outcome};
 ghost use Rattle.channel_vectors.specs.Code.Calls.{is_rest};
 ghost use Rattle.channel_vectors.specs.Code.Blocks.{blocked_in, window_mix, listed_words, ruled_words, left_words, made_block, block_line};
@@ -8,17 +8,9 @@ use crate::calls::After;
 use crate::lists::give;
 use channel_block::block::block;
 use channel_model::{Answer, Blocked, Channel};
-use channel_words::answers::answer_words;
-use vectors::line::{ends, number, rest, samples_stand, stands};
-use vectors::mix::{mix_all, mix_samples};
-
-// The smaller of the two.
-fn least(n: u64, most: usize) -> usize
-    ensures { result ≡ min n most }
-{
-    let m = most as u64;
-    if n < m { n as usize } else { most }
-}
+use channel_words::standing::{Words, stands_as};
+use vectors::line::{Word, ends, rest, stands};
+use vectors::mix::mix_all;
 
 // A block that is lent the first `size` numbers of the window memory.
 fn block_in(
@@ -27,14 +19,15 @@ fn block_in(
     first: &mut [f32],
     second: &mut [f32],
     windows: &mut [f64],
-    size: u64,
+    size: usize,
 ) -> Blocked
     ensures { outcome result first.new second.new windows.new ≡ blocked_in c (record { flag = flag; first = first.old; second = second.old }) size windows.old }
 {
-    let n = least(size, windows.len());
+    let n = size.min(windows.len());
     block(c, flag, first, second, &mut windows[..n])
 }
 
+#[tactic(auto, unfolding(crate::specs::Code::Blocks::window_mix))]
 fn window_mix(windows: &[f64]) -> u64
     requires { 8192 ≤ length windows.now }
     ensures { result ≡ window_mix windows.now }
@@ -55,15 +48,13 @@ fn listed_stand(
     ensures { result ≡ is_rest i (listed_words a first.now second.now windows.now) words.now }
 {
     let w = rest(words, i);
-    let eleven = answer_words(a);
-    let one = [window_mix(windows)];
     let n = 11 + first.len();
     let m = n + second.len();
-    let answer = stands(w, 0, &eleven);
-    let one_list = samples_stand(w, 11, first);
-    let other_list = samples_stand(w, n, second);
-    let memory = stands(w, m, &one);
-    answer & one_list & other_list & memory & ends(w, m + 1)
+    stands_as(w, 0, a)
+        & stands(w, 11, first)
+        & stands(w, n, second)
+        & stands(w, m, &[window_mix(windows)])
+        & ends(w, m + 1)
 }
 
 // Whether the answer and a number for each list and for the window memory are what is left from place i on.
@@ -79,14 +70,12 @@ fn ruled_stand(
     ensures { result ≡ is_rest i (ruled_words a first.now second.now windows.now) words.now }
 {
     let w = rest(words, i);
-    let eleven = answer_words(a);
-    let one = mix_samples(0, first);
-    let other = mix_samples(0, second);
-    let memory = window_mix(windows);
-    let three = [one, other, memory];
-    stands(w, 0, &eleven) & stands(w, 11, &three) & ends(w, 14)
+    let three = [mix_all(0, first), mix_all(0, second), window_mix(windows)];
+    stands_as(w, 0, a) & stands(w, 11, &three) & ends(w, 14)
 }
 
+// A mark and not two closures: it is one mark of the line, and is tested here and where the lists are given.
+#[tactic(auto, unfolding(crate::specs::Code::Blocks::left_words))]
 fn answer_stands(
     ruled: bool,
     words: &[u64],
@@ -100,9 +89,10 @@ fn answer_stands(
     ensures { result ≡ is_rest i (left_words ruled a first.now second.now windows.now) words.now }
 {
     if ruled {
-        return ruled_stand(words, i, a, first, second, windows);
+        ruled_stand(words, i, a, first, second, windows)
+    } else {
+        listed_stand(words, i, a, first, second, windows)
     }
-    listed_stand(words, i, a, first, second, windows)
 }
 
 // The call with the lists that the line gives. Behind them stand the length of the lent window memory and the answer.
@@ -119,21 +109,22 @@ fn made_block(
     ensures { (result, windows.new) ≡ made_block ruled words.now behind c first.old second.old windows.old }
 {
     let tail = rest(words, behind);
-    let flag = number(words, 1);
-    let size = number(tail, 0);
+    let flag = u64::at(words, 1);
+    let size = usize::at(tail, 0);
     let r = block_in(c, flag, &mut *first, &mut *second, &mut *windows, size);
-    let answer = r.answer;
     let agrees = answer_stands(
         ruled,
         tail,
         1,
-        answer,
+        r.answer,
         &first[..],
         &second[..],
         &windows[..],
     );
-    let channel = r.channel;
-    After { channel, agrees }
+    After {
+        channel: r.channel,
+        agrees,
+    }
 }
 
 // The lists stand at the start of lent memory.
@@ -148,13 +139,12 @@ fn block_line(
     requires { (8200 ≤ length first.old) × (8200 ≤ length second.old) × (8192 ≤ length windows.old) }
     ensures { (result, windows.new) ≡ block_line ruled words.now c windows.old }
 {
-    let g = give(ruled, words, &mut *first, &mut *second);
-    if !g.taken {
+    let Some(g) = give(ruled, words, &mut *first, &mut *second) else {
         return After {
             channel: c,
             agrees: false,
         };
-    }
+    };
     let n = g.first;
     let m = g.second;
     made_block(

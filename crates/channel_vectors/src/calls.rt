@@ -1,15 +1,16 @@
 // Lines that look at no window memory. Each takes what is given from the line, makes the call, and compares its answer with the rest of the line.
-ghost use Rattle.std.specs.Prelude.{◌≡◌, [], ◌∷◌};
+ghost use Rattle.std.specs.Prelude.{◌≡◌, map};
 ghost use Rattle.channel_vectors.specs.Code.Calls.{is_rest, open_line, build_line, assign_line, release_line, figures_line, standing_line, call_line};
 
 use channel_control::assign::assign;
 use channel_control::figures::figures;
 use channel_control::release::release;
-use channel_model::Channel;
+use channel_model::{Channel, number_and_channel};
+use channel_open::open;
 use channel_words::arguments::{carriers_in, settings_in};
 use channel_words::built::{channel_in, channel_length};
 use channel_words::standing::channel_stands;
-use vectors::line::{ends, rest, samples_stand, stands};
+use vectors::line::{Word, ends, rest, stands};
 
 // The channel after a line, and whether the answer was the Rust's.
 #[derive(Clone, Copy)]
@@ -18,58 +19,65 @@ pub struct After {
     pub agrees: bool,
 }
 
-// Whether the refusal is the one number that is left from place i on.
-fn refusal_is(words: &[u64], i: usize, refusal: u64) -> bool
-    ensures { result ≡ is_rest i (refusal ∷ []) words.now }
+// Whether the values are what is left from place i on.
+fn are_left<W: Word>(words: &[u64], i: usize, expected: &[W]) -> bool
+    ensures { result ≡ is_rest i (map W.pattern expected.now) words.now }
 {
     let w = rest(words, i);
-    let one = [refusal];
-    stands(w, 0, &one) & ends(w, 1)
+    stands(w, 0, expected) & ends(w, expected.len())
 }
 
+#[tactic(auto, unfolding(crate::specs::Code::Calls::open_line))]
 pub fn replay_open(words: &[u64]) -> After
     ensures { result ≡ open_line words.now }
 {
-    let settings = settings_in(words, 1);
-    let r = channel_open::open(settings);
-    let agrees = refusal_is(words, 10, r.refusal);
-    let channel = r.channel;
-    After { channel, agrees }
+    let (number, channel) = number_and_channel(open(settings_in(words, 1)));
+    After {
+        channel,
+        agrees: are_left(words, 10, &[number]),
+    }
 }
 
+#[tactic(auto, unfolding(crate::specs::Code::Calls::build_line))]
 fn replay_build(words: &[u64]) -> After
     ensures { result ≡ build_line words.now }
 {
-    let channel = channel_in(words, 1);
-    let agrees = ends(words, 1 + channel_length(words, 1));
-    After { channel, agrees }
+    After {
+        channel: channel_in(words, 1),
+        agrees: ends(words, 1 + channel_length(words, 1)),
+    }
 }
 
+#[tactic(auto, unfolding(crate::specs::Code::Calls::assign_line))]
 fn replay_assign(words: &[u64], c: Channel) -> After
     ensures { result ≡ assign_line words.now c }
 {
-    let carriers = carriers_in(words, 1);
-    let r = assign(c, carriers);
-    let agrees = refusal_is(words, 5, r.refusal);
-    let channel = r.channel;
-    After { channel, agrees }
+    let (number, channel) = number_and_channel(assign(c, carriers_in(words, 1)));
+    After {
+        channel,
+        agrees: are_left(words, 5, &[number]),
+    }
 }
 
+#[tactic(auto, unfolding(crate::specs::Code::Calls::release_line))]
 fn replay_release(words: &[u64], c: Channel) -> After
     ensures { result ≡ release_line words.now c }
 {
-    let channel = release(c);
-    let agrees = ends(words, 1);
-    After { channel, agrees }
+    After {
+        channel: release(c),
+        agrees: ends(words, 1),
+    }
 }
 
+#[tactic(auto, unfolding(crate::specs::Code::Calls::figures_line))]
 fn replay_figures(words: &[u64], c: Channel) -> After
     ensures { result ≡ figures_line words.now c }
 {
-    let w = rest(words, 1);
     let twelve = figures(c);
-    let agrees = samples_stand(w, 0, &twelve) & ends(w, 12);
-    After { channel: c, agrees }
+    After {
+        channel: c,
+        agrees: are_left(words, 1, &twelve),
+    }
 }
 
 // With a bank a channel has 37 numbers.
@@ -78,10 +86,14 @@ fn replay_standing(words: &[u64], c: Channel) -> After
 {
     let w = rest(words, 1);
     let n = if c.setup.bank { 37 } else { 17 };
-    let agrees = channel_stands(w, 0, c) & ends(w, n);
-    After { channel: c, agrees }
+    After {
+        channel: c,
+        agrees: channel_stands(w, 0, c) & ends(w, n),
+    }
 }
 
+// The kinds are those of reference/README.md.
+#[tactic(auto, using(std::proofs::lemmas::Bool::Decides::nat_tests), unfolding(crate::specs::Code::Calls::call_line))]
 pub fn replay_call(kind: u64, words: &[u64], c: Channel) -> After
     ensures { result ≡ call_line kind words.now c }
 {

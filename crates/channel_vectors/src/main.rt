@@ -15,49 +15,36 @@ use crate::blocks::replay_block;
 use crate::calls::{After, replay_call, replay_open};
 use crate::memory::set_memory;
 use channel_model::Channel;
-use vectors::line::{ends, number};
-use vectors::next_line;
-use vectors::tally::{Tally, counted, say};
+use vectors::line::{Word, ends};
 
 // The window memory is one number longer than a block takes, so that a wrong length can be lent.
+#[tactic(auto, using(std::proofs::lemmas::Bool::Decides::nat_tests), unfolding(crate::specs::Code::Lines::replayed, crate::specs::Code::Lines::by_kind))]
 fn replay(words: &[u64], c: Channel, windows: &mut [f64]) -> After
     requires { 8192 ≤ length windows.old }
     ensures { (result, windows.new) ≡ replayed words.now c windows.old }
 {
-    let kind = number(words, 0);
-    if kind < 3 {
-        set_memory(kind, words, windows);
-        let agrees = ends(words, kind as usize + 1);
-        return After { channel: c, agrees };
+    let kind = u64::at(words, 0);
+    match kind {
+        0..=2 => {
+            set_memory(kind, words, windows);
+            After {
+                channel: c,
+                agrees: ends(words, kind as usize + 1),
+            }
+        }
+        6 => replay_block(false, words, c, windows),
+        10 => replay_block(true, words, c, windows),
+        _ => replay_call(kind, words, c),
     }
-    if kind == 6 {
-        return replay_block(false, words, c, windows);
-    }
-    if kind == 10 {
-        return replay_block(true, words, c, windows);
-    }
-    replay_call(kind, words, c)
 }
 
 fn main() {
-    let mut words = [0u64; 33300];
     let mut windows = [0.0; 8193];
     // Any channel: the first line opens or builds another.
-    let zeros = [0u64; 1];
-    let mut r = replay_open(&zeros);
-    let mut t = Tally {
-        lines: 0,
-        differ: 0,
-    };
-    let mut left: u64 = 100000000;
-    while 0 < left {
-        left -= 1;
-        let n = next_line(&mut words);
-        if n == 0 {
-            break;
-        }
-        r = replay(&words[..n], r.channel, &mut windows);
-        t = counted(t, r.agrees);
-    }
-    say(t);
+    let mut c = replay_open(&[0]).channel;
+    vectors::replay(&mut [0; 33300], |words| {
+        let r = replay(words, c, &mut windows);
+        c = r.channel;
+        r.agrees
+    });
 }

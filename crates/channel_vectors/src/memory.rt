@@ -1,18 +1,10 @@
 // The window memory: all zeros, filled by the rule of reference/README.md, or one number set.
 ghost use Rattle.std.specs.Prelude.{◌≡◌};
-ghost use Rattle.channel_vectors.specs.Code.Memory.{cleared, sixty_fourths, filled, poked};
+ghost use Rattle.channel_vectors.specs.Code.Memory.{sixty_fourths, filled, poked};
 ghost use Rattle.channel_vectors.specs.Code.Lines.{memory_line};
 
 use ieee754::conversion::u64_to_f64;
-use vectors::line::{float64, number};
-
-fn clear(windows: &mut [f64])
-    ensures { windows.new ≡ cleared windows.old }
-{
-    for i in 0..windows.len() {
-        windows[i] = 0.0;
-    }
-}
+use vectors::line::Word;
 
 // Both numbers are cut first, so that the product and the sum fit.
 fn sixty_fourths(start: u64, i: usize) -> f64
@@ -25,26 +17,27 @@ fn sixty_fourths(start: u64, i: usize) -> f64
 fn fill(start: u64, windows: &mut [f64])
     ensures { windows.new ≡ filled start windows.old }
 {
-    for i in 0..windows.len() {
-        windows[i] = sixty_fourths(start, i);
+    for (i, w) in windows.iter_mut().enumerate() {
+        *w = sixty_fourths(start, i);
     }
 }
 
-fn poke(place: u64, value: f64, windows: &mut [f64])
+#[tactic(auto, unfolding(crate::specs::Code::Memory::poked))]
+fn poke(place: usize, value: f64, windows: &mut [f64])
     ensures { windows.new ≡ poked place value windows.old }
 {
-    let m = windows.len() as u64;
-    if place < m {
-        windows[place as usize] = value;
+    if place < windows.len() {
+        windows[place] = value;
     }
 }
 
+#[tactic(auto, using(std::proofs::lemmas::Bool::Decides::nat_tests), unfolding(crate::specs::Code::Lines::memory_line, crate::specs::Code::Memory::cleared))]
 pub fn set_memory(kind: u64, words: &[u64], windows: &mut [f64])
     ensures { windows.new ≡ memory_line kind words.now windows.old }
 {
     match kind {
-        0 => clear(windows),
-        1 => fill(number(words, 1), windows),
-        _ => poke(number(words, 1), float64(words, 2), windows),
+        0 => windows.fill(0.0),
+        1 => fill(u64::at(words, 1), windows),
+        _ => poke(usize::at(words, 1), f64::at(words, 2), windows),
     }
 }

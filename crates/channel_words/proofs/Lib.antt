@@ -1,6 +1,3 @@
--- What the functions make, from what their steps ensure.
-pub mod AnswerCases
-pub mod ArgumentCases
-pub mod BuiltCases
+-- A channel as it stands, from what its parts ensure.
 pub mod StandingLaws
 pub mod StandingCases

@@ -1,23 +1,19 @@
 -- A channel as it stands, from what the steps ensure. Assumes nothing.
 use mathlib.Core.Path.{◌≡◌, refl, sym, ap, ◌∙◌}
-use mathlib.Core.Bool.{Bool, true, false, cond, not, ◌&&◌}
+use mathlib.Core.Bool.{Bool, true, false, cond, ◌&&◌}
 use mathlib.Core.List.{List, [], ◌∷◌, ◌++◌, append-nil}
 use Prim.Native.Nat.{ℕ}
-use mir.Val.{bool_byte}
 use lib.ListN.{drop}
-use lib.Ieee.{Float, binary32, binary64, to_bits}
+use lib.Ieee.{Float}
 use Rattle.sequences.specs.Folds.{fold}
 use Rattle.sequences.proofs.FoldLaws.{fold_append}
 use Rattle.vectors.specs.Code.Words.{mixed}
-use Rattle.vectors.specs.Code.Lines.{mark_number, stands_at}
+use Rattle.vectors.specs.Code.Lines.{stands_at}
 use Rattle.vectors.proofs.LineLaws.{stands_at_both, stands_in_rest}
 use Rattle.tracker.specs.declared.state.Tracked.{Tracked}
 use Rattle.bank_model.specs.declared.state.EkfTrackingBank.{EkfTrackingBank}
-use Rattle.channel_model.specs.declared.Status.{Status}
 use Rattle.channel_model.specs.declared.Channel.{Channel}
-use Rattle.channel_model.specs.Assigning.{idle}
 use Rattle.channel_words.specs.Code.Standing.{tracker_mix, tracker_words, mark_words, reading_words, carrier_words, fade_words, bank_words, pll_words, standing_words}
-use Rattle.channel_words.proofs.AnswerCases.{mark_is}
 use Rattle.channel_words.proofs.StandingLaws.{four_stand}
 
 pub mix_is : (h : Tracked) {s0 s1 s2 s3 s4 s5 s6 : ℕ}
@@ -36,22 +32,6 @@ mix_is h {s0} {s1} {s2} {s3} {s4} {s5} e0 e1 e2 e3 e4 e5 e6 =
     (e4 ∙ ap (λ (s : ℕ). mixed s t.power.sum_q_sq)
     (e3 ∙ ap (λ (s : ℕ). mixed s t.power.sum_abs_i) e2)))
     ∙ sym all
-
-pub tracker_words_are : (h : Tracked) {metric word : ℕ} → metric ≡ to_bits binary64 h.ekf.lock_metric → word ≡ tracker_mix h
-    → ◌≡◌ {A = List ℕ} (bool_byte h.ekf.is_locked ∷ metric ∷ h.ekf.power.pushed ∷ h.ekf.convergence_guard ∷ word ∷ []) (tracker_words h)
-unfolding tracker_words
-tracker_words_are h em ew = λ i. mark_is h.ekf.is_locked i ∷ em i ∷ h.ekf.power.pushed ∷ h.ekf.convergence_guard ∷ ew i ∷ []
-
-pub mark_words_are : (s : Status) (locked ever : Bool) (last : Float) {assigned : Bool} {snr : ℕ} → assigned ≡ not (idle s) → snr ≡ to_bits binary32 last
-    → ◌≡◌ {A = List ℕ} (bool_byte assigned ∷ bool_byte locked ∷ bool_byte ever ∷ snr ∷ []) (mark_words s locked ever last)
-unfolding mark_words
-mark_words_are s locked ever last {assigned} ea es =
-    λ i. (mark_is assigned ∙ ap mark_number ea) i ∷ mark_is locked i ∷ mark_is ever i ∷ es i ∷ []
-
-pub fade_words_are : (b : EkfTrackingBank)
-    → ◌≡◌ {A = List ℕ} (b.active_idx ∷ bool_byte b.in_fade ∷ b.fade_counter ∷ b.max_fade_steps ∷ bool_byte b.terminated_in_fade ∷ []) (fade_words b)
-unfolding fade_words
-fade_words_are b = λ i. b.active_idx ∷ mark_is b.in_fade i ∷ b.fade_counter ∷ b.max_fade_steps ∷ mark_is b.terminated_in_fade i ∷ []
 
 -- numbers that stand, from the numbers and the test
 pub stands_of : (i : ℕ) (ws : List ℕ) {a b : List ℕ} {r : Bool} → a ≡ b → r ≡ stands_at i a ws → r ≡ stands_at i b ws

@@ -1,29 +1,27 @@
 // A block's answer as the numbers of a line.
-ghost use Rattle.std.specs.Prelude.{◌≡◌};
-ghost use Rattle.channel_words.specs.Code.Answers.{answer_words};
-
+use crate::standing::Words;
 use channel_model::Answer;
-use ieee754::pattern::f64_to_bits;
+use vectors::line::Word;
 
-pub fn answer_words(a: Answer) -> [u64; 11]
-    ensures { result ≡ answer_words a }
-{
-    let phase = f64_to_bits(a.phase);
-    let frequency = f64_to_bits(a.frequency);
-    let snr = f64_to_bits(a.snr);
-    let electrons = f64_to_bits(a.electrons);
-    let metric = f64_to_bits(a.metric);
-    [
-        a.refusal,
-        a.locked as u64,
-        a.tracker,
-        a.in_fade as u64,
-        a.fade_count,
-        a.ended as u64,
-        phase,
-        frequency,
-        snr,
-        electrons,
-        metric,
-    ]
+impl Words<11> for Answer {
+    ghost use Rattle.channel_words.specs.Code.Answers.{answer_words};
+
+    ghost numbers = { answer_words };
+
+    #[tactic(auto, unfolding(crate::specs::Code::Answers::answer_words))]
+    fn words(self) -> [u64; 11] {
+        [
+            self.refusal,
+            self.locked.pattern(),
+            self.tracker,
+            self.in_fade.pattern(),
+            self.fade_count,
+            self.ended.pattern(),
+            self.phase.pattern(),
+            self.frequency.pattern(),
+            self.snr.pattern(),
+            self.electrons.pattern(),
+            self.metric.pattern(),
+        ]
+    }
 }

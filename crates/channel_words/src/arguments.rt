@@ -4,66 +4,50 @@ ghost use Rattle.channel_words.specs.Code.Arguments.{settings_at, carriers_at, r
 
 use crate::rules::Rule;
 use channel_model::{Carriers, Settings};
-use vectors::line::{float64, mark, number, rest};
+use vectors::line::{Word, rest};
 
+#[tactic(auto, unfolding(crate::specs::Code::Arguments::settings_at))]
 pub fn settings_in(words: &[u64], i: usize) -> Settings
     ensures { result ≡ settings_at i words.now }
 {
     let w = rest(words, i);
-    let rate = number(w, 0);
-    let factor = number(w, 1);
-    let modulation = number(w, 2);
-    let adaptive = mark(w, 3);
-    let dual_lock = mark(w, 4);
-    let bank = mark(w, 5);
-    let two = mark(w, 6);
-    let fade = number(w, 7);
-    let ratio = float64(w, 8);
     Settings {
-        rate,
-        factor,
-        modulation,
-        adaptive,
-        dual_lock,
-        bank,
-        two,
-        fade,
-        ratio,
+        rate: u64::at(w, 0),
+        factor: u64::at(w, 1),
+        modulation: u64::at(w, 2),
+        adaptive: bool::at(w, 3),
+        dual_lock: bool::at(w, 4),
+        bank: bool::at(w, 5),
+        two: bool::at(w, 6),
+        fade: u64::at(w, 7),
+        ratio: f64::at(w, 8),
     }
 }
 
+#[tactic(auto, unfolding(crate::specs::Code::Arguments::carriers_at))]
 pub fn carriers_in(words: &[u64], i: usize) -> Carriers
     ensures { result ≡ carriers_at i words.now }
 {
     let w = rest(words, i);
-    let nominal = float64(w, 0);
-    let target = float64(w, 1);
-    let target2 = float64(w, 2);
-    let frequency2 = float64(w, 3);
     Carriers {
-        nominal,
-        target,
-        target2,
-        frequency2,
+        nominal: f64::at(w, 0),
+        target: f64::at(w, 1),
+        target2: f64::at(w, 2),
+        frequency2: f64::at(w, 3),
     }
 }
 
+#[tactic(auto, unfolding(crate::specs::Code::Arguments::rule_at))]
 pub fn rule_in(words: &[u64], i: usize) -> Rule
     ensures { result ≡ rule_at i words.now }
 {
     let w = rest(words, i);
-    let re = float64(w, 0);
-    let im = float64(w, 1);
-    let cos = float64(w, 2);
-    let sin = float64(w, 3);
-    let noise = float64(w, 4);
-    let seed = number(w, 5);
     Rule {
-        re,
-        im,
-        cos,
-        sin,
-        noise,
-        seed,
+        re: f64::at(w, 0),
+        im: f64::at(w, 1),
+        cos: f64::at(w, 2),
+        sin: f64::at(w, 3),
+        noise: f64::at(w, 4),
+        seed: u64::at(w, 5),
     }
 }

@@ -1,5 +1,5 @@
 // A channel built from plain numbers.
-ghost use Rattle.std.specs.Prelude.{◌≡◌, ◌+◌, drop};
+ghost use Rattle.std.specs.Prelude.{◌≡◌, ◌≤◌, drop};
 ghost use Rattle.channel_words.specs.Code.Built.{ten_at, behind_tracker, given_covariance, given_power, given_tuning, given_tracker, given_setup, given_status, given_reading, given_bank, channel_at, given_length};
 
 use crate::arguments::carriers_in;
@@ -10,18 +10,17 @@ use tracker::state::{CarrierPllEkf, Tracked, Tuning};
 use tracker_covariance::initial::initial;
 use tracker_measurement::modulation::Modulation;
 use tracker_power_ratio::PowerSums;
-use vectors::line::{float32, float64, mark, matrix, number, rest, six};
+use vectors::line::{Word, array_at, rest};
 
 // Where a tracker's last ten numbers begin.
+#[tactic(auto, unfolding(crate::specs::Code::Built::ten_at))]
 fn ten_at(words: &[u64]) -> usize
-    ensures { result ≡ ten_at words.now }
+    ensures { (result ≡ ten_at words.now) × (result ≤ 43) }
 {
-    if mark(words, 6) {
-        return 43;
-    }
-    7
+    if bool::at(words, 6) { 43 } else { 7 }
 }
 
+#[tactic(auto, unfolding(crate::specs::Code::Built::behind_tracker))]
 fn behind_tracker(words: &[u64]) -> &[u64]
     ensures { result.now ≡ behind_tracker words.now }
 {
@@ -29,161 +28,142 @@ fn behind_tracker(words: &[u64]) -> &[u64]
     rest(words, ten + 10)
 }
 
+#[tactic(auto, unfolding(crate::specs::Code::Built::given_covariance))]
 fn covariance_in(words: &[u64]) -> [f64; 36]
     ensures { result ≡ given_covariance words.now }
 {
-    if mark(words, 6) {
-        return matrix(words, 7);
+    if bool::at(words, 6) {
+        array_at(words, 7)
+    } else {
+        initial()
     }
-    initial()
 }
 
+#[tactic(auto, unfolding(crate::specs::Code::Built::given_power))]
 fn power_in(ten: &[u64]) -> PowerSums
     ensures { result ≡ given_power ten.now }
 {
-    let sum_abs_i = float64(ten, 2);
-    let sum_q_sq = float64(ten, 3);
-    let pushed = number(ten, 5) as usize;
     PowerSums {
-        pushed,
-        sum_abs_i,
-        sum_q_sq,
+        pushed: usize::at(ten, 5),
+        sum_abs_i: f64::at(ten, 2),
+        sum_q_sq: f64::at(ten, 3),
     }
 }
 
 // The source's noise figures are those of any new tracker.
+#[tactic(auto, unfolding(crate::specs::Code::Built::given_tuning, tracker::specs::State::initial_tracker))]
 fn tuning_in(ten: &[u64], rate: f64) -> Tuning
     ensures { result ≡ given_tuning rate ten.now }
 {
     let new = CarrierPllEkf::new(rate, Modulation::Carrier);
-    let mut tuning = new.ekf.tuning;
-    tuning.frequency_ratio = float64(ten, 4);
-    tuning.adaptive_ekf = mark(ten, 8);
-    tuning.dual_lock = mark(ten, 9);
-    tuning
+    Tuning {
+        frequency_ratio: f64::at(ten, 4),
+        adaptive_ekf: bool::at(ten, 8),
+        dual_lock: bool::at(ten, 9),
+        ..new.ekf.tuning
+    }
 }
 
+#[tactic(auto, unfolding(crate::specs::Code::Built::given_tracker))]
 fn tracker_in(words: &[u64], rate: f64, modulation: Modulation) -> Tracked
     ensures { result ≡ given_tracker rate modulation words.now }
 {
-    let x = six(words, 0);
-    let p = covariance_in(words);
     let ten = rest(words, ten_at(words));
-    let tuning = tuning_in(ten, rate);
-    let power = power_in(ten);
-    let lock_metric = float64(ten, 0);
-    let envelope_ema = float64(ten, 1);
-    let convergence_guard = number(ten, 6) as usize;
-    let is_locked = mark(ten, 7);
     let ekf = CarrierPllEkf {
         modulation,
-        tuning,
-        x,
-        envelope_ema,
-        power,
-        lock_metric,
-        is_locked,
-        convergence_guard,
+        tuning: tuning_in(ten, rate),
+        x: array_at(words, 0),
+        envelope_ema: f64::at(ten, 1),
+        power: power_in(ten),
+        lock_metric: f64::at(ten, 0),
+        is_locked: bool::at(ten, 7),
+        convergence_guard: usize::at(ten, 6),
     };
-    Tracked { ekf, p }
+    Tracked {
+        ekf,
+        p: covariance_in(words),
+    }
 }
 
+#[tactic(auto, unfolding(crate::specs::Code::Built::given_setup))]
 fn setup_in(words: &[u64]) -> Setup
     ensures { result ≡ given_setup words.now }
 {
-    let rate = number(words, 0);
-    let factor = number(words, 1);
-    let bank = mark(words, 3);
-    let two = mark(words, 4);
     Setup {
-        rate,
-        factor,
-        bank,
-        two,
+        rate: u64::at(words, 0),
+        factor: u64::at(words, 1),
+        bank: bool::at(words, 3),
+        two: bool::at(words, 4),
     }
 }
 
+#[tactic(auto, unfolding(crate::specs::Code::Built::given_status))]
 fn status_in(words: &[u64]) -> Status
     ensures { result ≡ given_status words.now }
 {
-    if mark(words, 5) {
-        return Status::Assigned;
+    if bool::at(words, 5) {
+        Status::Assigned
+    } else {
+        Status::Idle
     }
-    Status::Idle
 }
 
+#[tactic(auto, unfolding(crate::specs::Code::Built::given_reading))]
 fn reading_in(words: &[u64]) -> Reading
     ensures { result ≡ given_reading words.now }
 {
-    let phase = float64(words, 18);
-    let frequency = float64(words, 19);
-    let snr = float64(words, 20);
-    let electrons = float64(words, 21);
     Reading {
-        phase,
-        frequency,
-        snr,
-        electrons,
+        phase: f64::at(words, 18),
+        frequency: f64::at(words, 19),
+        snr: f64::at(words, 20),
+        electrons: f64::at(words, 21),
     }
 }
 
+#[tactic(auto, unfolding(crate::specs::Code::Built::given_bank, crate::specs::Code::Built::pll_numbers, crate::specs::Code::Built::first_numbers, crate::specs::Code::Built::second_numbers, crate::specs::Code::Built::third_numbers))]
 fn bank_in(words: &[u64], rate: f64, m: Modulation) -> EkfTrackingBank
     ensures { result ≡ given_bank rate m words.now }
 {
     let first = behind_tracker(rest(words, 22));
     let second = behind_tracker(first);
     let third = behind_tracker(second);
-    let t0 = tracker_in(first, rate, m);
-    let t1 = tracker_in(second, rate, m);
-    let t2 = tracker_in(third, rate, m);
-    let active_idx = number(words, 13);
-    let in_fade = mark(words, 14);
-    let terminated_in_fade = mark(words, 15);
-    let fade_counter = number(words, 16);
-    let max_fade_steps = number(words, 17);
     EkfTrackingBank {
-        t0,
-        t1,
-        t2,
-        active_idx,
-        in_fade,
-        fade_counter,
-        max_fade_steps,
-        terminated_in_fade,
+        t0: tracker_in(first, rate, m),
+        t1: tracker_in(second, rate, m),
+        t2: tracker_in(third, rate, m),
+        active_idx: u64::at(words, 13),
+        in_fade: bool::at(words, 14),
+        fade_counter: u64::at(words, 16),
+        max_fade_steps: u64::at(words, 17),
+        terminated_in_fade: bool::at(words, 15),
     }
 }
 
+#[tactic(auto, unfolding(crate::specs::Code::Built::channel_at, crate::specs::Code::Built::given_channel, crate::specs::Code::Built::given_setup, crate::specs::Code::Built::pll_numbers))]
 pub fn channel_in(words: &[u64], i: usize) -> Channel
     ensures { result ≡ channel_at i words.now }
 {
     let w = rest(words, i);
     let setup = setup_in(w);
     let rate = decimated_rate(setup.rate, setup.factor);
-    let m = modulation_of(number(w, 2));
-    let status = status_in(w);
-    let carriers = carriers_in(w, 6);
-    let pll = tracker_in(rest(w, 22), rate, m);
-    let bank = bank_in(w, rate, m);
-    let is_locked = mark(w, 10);
-    let ever_locked = mark(w, 11);
-    let last_snr = float32(w, 12);
-    let reading = reading_in(w);
+    let m = modulation_of(u64::at(w, 2));
     Channel {
         setup,
-        status,
-        carriers,
-        pll,
-        bank,
-        ever_locked,
-        last_snr,
-        is_locked,
-        reading,
+        status: status_in(w),
+        carriers: carriers_in(w, 6),
+        pll: tracker_in(rest(w, 22), rate, m),
+        bank: bank_in(w, rate, m),
+        ever_locked: bool::at(w, 11),
+        last_snr: f32::at(w, 12),
+        is_locked: bool::at(w, 10),
+        reading: reading_in(w),
     }
 }
 
 // How many numbers of the line, from place i on, a channel takes.
+#[tactic(auto, unfolding(crate::specs::Code::Built::given_length, crate::specs::Code::Built::pll_numbers, crate::specs::Code::Built::first_numbers, crate::specs::Code::Built::second_numbers, crate::specs::Code::Built::third_numbers))]
 pub fn channel_length(words: &[u64], i: usize) -> usize
-    ensures { result ≡ given_length (drop i words.now) }
+    ensures { (result ≡ given_length (drop i words.now)) × (result ≤ 234) }
 {
     let pll = rest(rest(words, i), 22);
     let first = behind_tracker(pll);

@@ -36,46 +36,48 @@ fn noise_of(x: u64) -> f64
     u64_to_f64(x) / 2147483648.0 - 0.5
 }
 
-fn first_turn(r: Rule) -> Turn
-    ensures { result ≡ first_turn r }
-{
-    Turn {
-        re: r.re,
-        im: r.im,
-        x: r.seed % 0x8000_0000,
+impl Rule {
+    #[tactic(auto, unfolding(crate::specs::Code::Rules::first_turn))]
+    fn first_turn(self) -> Turn
+        ensures { result ≡ first_turn self }
+    {
+        Turn {
+            re: self.re,
+            im: self.im,
+            x: self.seed % 0x8000_0000,
+        }
     }
-}
 
-fn next_turn(r: Rule, t: Turn) -> Turn
-    ensures { result ≡ next_turn r t }
-{
-    let re = t.re * r.cos - t.im * r.sin;
-    let im = t.re * r.sin + t.im * r.cos;
-    let x = next_noise(next_noise(t.x));
-    Turn { re, im, x }
-}
+    #[tactic(auto, unfolding(crate::specs::Code::Rules::next_turn))]
+    fn next_turn(self, t: Turn) -> Turn
+        ensures { result ≡ next_turn self t }
+    {
+        Turn {
+            re: t.re * self.cos - t.im * self.sin,
+            im: t.re * self.sin + t.im * self.cos,
+            x: next_noise(next_noise(t.x)),
+        }
+    }
 
-fn noisy_part(r: Rule, v: f64, x: u64) -> f32
-    ensures { result ≡ noisy r v x }
-{
-    let noise = noise_of(x);
-    f64_to_f32(v + r.noise * noise)
-}
+    #[tactic(auto, unfolding(crate::specs::Code::Rules::noisy))]
+    fn noisy(self, v: f64, x: u64) -> f32
+        ensures { result ≡ noisy self v x }
+    {
+        f64_to_f32(v + self.noise * noise_of(x))
+    }
 
-// The rule's pairs, over whatever stands in the lent list.
-pub fn ruled(rule: Rule, pairs: usize, list: &mut [f32])
-    requires { length list.old ≡ 2 * pairs }
-    ensures { list.new ≡ ruled_samples rule pairs }
-{
-    let mut t = first_turn(rule);
-    let mut left = pairs;
-    let mut i = 0;
-    while 0 < left {
-        let x = next_noise(t.x);
-        list[i] = noisy_part(rule, t.re, x);
-        list[i + 1] = noisy_part(rule, t.im, next_noise(x));
-        t = next_turn(rule, t);
-        left -= 1;
-        i += 2;
+    // The rule's pairs, over whatever stands in the lent list.
+    // Not an iterator over the pairs of the list: no contract says what is written through one.
+    pub fn samples(self, pairs: usize, list: &mut [f32])
+        requires { length list.old ≡ 2 * pairs }
+        ensures { list.new ≡ ruled_samples self pairs }
+    {
+        let mut t = self.first_turn();
+        for k in 0..pairs {
+            let x = next_noise(t.x);
+            list[2 * k] = self.noisy(t.re, x);
+            list[2 * k + 1] = self.noisy(t.im, next_noise(x));
+            t = self.next_turn(t);
+        }
     }
 }

@@ -2,7 +2,6 @@
 pub mod SignBits
 pub mod OppositeSign
 pub mod Tables
-pub mod Unrolled
 pub mod SeriesBound
 pub mod Doubling
 pub mod SecondQuotient

@@ -15,32 +15,15 @@ const ANGLE_OF_HALF: u64 = 2138197195906305896;
 
 const RIGHT_ANGLE: u64 = 7244019458077122842;
 
-// 2 q - 1, in units of 2^-61.
-fn excess(q: u64) -> u64
-    requires { q ≤ 2 ^ 61 }
-    ensures { result ≡ 2 * q - 2 ^ 61 }
-{
-    if q < 0x1000_0000_0000_0000 {
-        0
-    } else {
-        2 * q - 0x2000_0000_0000_0000
-    }
-}
-
-fn lowered(t: u64) -> u64
-    ensures { result ≡ t - 2 ^ 10 }
-{
-    if t < 1024 { 0 } else { t - 1024 }
-}
-
-// (2 q - 1) / (2 + q), in units of 2^-61 as q is.
+// (2 q - 1) / (2 + q), in units of 2^-61 as q is, less what its roundings can have added.
 fn second_quotient(q: u64) -> u64
     requires { q ≤ 2 ^ 61 }
     ensures { result ≡ second q }
 {
-    let u = conversion::to_f64(excess(q), 4.336808689942018e-19);
+    let excess = (2 * q).saturating_sub(0x2000_0000_0000_0000);
+    let u = conversion::to_f64(excess, 4.336808689942018e-19);
     let v = conversion::to_f64(0x4000_0000_0000_0000 + q, 4.336808689942018e-19);
-    lowered(quotient::ratio(u, v))
+    quotient::ratio(u, v).saturating_sub(1024)
 }
 
 // What the series is taken of, at most 1/2: the quotient, or above 1/2 the second one.
@@ -72,6 +55,7 @@ fn first_octant(a: f64, b: f64) -> u64
 }
 
 // The smaller and the larger of two numbers above 0, in the form that is one instruction of the machine.
+// Not the library's `min` and `max`, which test for a NaN besides.
 fn smaller(a: f64, b: f64) -> f64
     requires { T (positive a) × T (positive b) }
     ensures { result ≡ cond (le a b) a b }

@@ -8,11 +8,10 @@ pub fn negative(x: f64) -> bool
     requires { T (not (is_nan x)) }
     ensures { result ≡ sign_bit x }
 {
-    let b: u64 = f64::to_bits(x);
-    b >= 0x8000_0000_0000_0000
+    x.is_sign_negative()
 }
 
-// The absolute value: the sign's bit is cleared.
+// The absolute value: the sign's bit is cleared. Not `ieee754::sign::abs`, which tests for a NaN first.
 pub fn magnitude(x: f64) -> f64
     requires { T (not (is_nan x)) }
     ensures { result ≡ absolute x }

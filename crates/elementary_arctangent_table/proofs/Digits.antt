@@ -1,14 +1,16 @@
 -- The digits of the code's tables are those of the rule: one computed test for each table.
-use mathlib.Core.Path.{◌≡◌}
+use mathlib.Core.Path.{◌≡◌, refl}
 use mathlib.Core.List.{List, [], ◌∷◌}
-use Prim.Native.Nat.{ℕ}
+use Prim.Native.Nat.{ℕ, zero, suc, ◌<◌}
+use native.Mathlib.Omega.{arith}
 use lib.Count.{count_trailing_zeros}
-use lib.Dec.{T, ltb, ltb→lt}
+use lib.Dec.{T}
 use lib.ListN.{get_or}
-use lib.Ieee.{binary64, of_bits, to_bits, round, size, span, climb, units, odd, fits}
+use lib.Ieee.{Float, binary64, neg, of_bits, to_bits, round, size, span, climb, units, odd, fits}
 use Rattle.elementary_series.specs.Series.{factorial, reciprocal}
 use Rattle.elementary_cells.specs.Polynomials.{lin, shift, scale, alternating}
-use Rattle.elementary_cells.proofs.Entries.{follows, nearest_fits, arm}
+use Rattle.elementary_cells.proofs.Entries.{follows, nearest_fits, table_at}
+use Rattle.elementary_arctangent_table.specs.declared.TheConstants.{COEFFICIENTS}
 use Rattle.elementary_arctangent_table.specs.Table.{arc_coefficients, around, arc_entry}
 
 -- the patterns that the code's decimals stand for
@@ -94,27 +96,40 @@ entry_fits : (j k : ℕ) → T (fits binary64 (arc_entry j k))
 unfolding arc_entry
 entry_fits j k = nearest_fits (around k j)
 
--- an arm of each match: k is n
-pub arm0 : (n k : ℕ) → T (ltb n 33) → k ≡ n → of_bits binary64 (get_or digits0 n 0) ≡ arc_entry 0 k
-unfolding digits0
-arm0 n k h e = arm (arc_entry 0) digits0 follow0 (entry_fits 0) n k (ltb→lt n 33 h) e
+-- the rows of the code's table are of these patterns
+at0 : (k : ℕ) (d : Float) → k < 33 → get_or (get_or COEFFICIENTS 0 []) k d ≡ arc_entry 0 k
+unfolding digits0 neg of_bits
+at0 = table_at (arc_entry 0) digits0 (get_or COEFFICIENTS 0 []) follow0 (entry_fits 0) refl
 
-pub arm1 : (n k : ℕ) → T (ltb n 33) → k ≡ n → of_bits binary64 (get_or digits1 n 0) ≡ arc_entry 1 k
-unfolding digits1
-arm1 n k h e = arm (arc_entry 1) digits1 follow1 (entry_fits 1) n k (ltb→lt n 33 h) e
+at1 : (k : ℕ) (d : Float) → k < 33 → get_or (get_or COEFFICIENTS 1 []) k d ≡ arc_entry 1 k
+unfolding digits1 neg of_bits
+at1 = table_at (arc_entry 1) digits1 (get_or COEFFICIENTS 1 []) follow1 (entry_fits 1) refl
 
-pub arm2 : (n k : ℕ) → T (ltb n 33) → k ≡ n → of_bits binary64 (get_or digits2 n 0) ≡ arc_entry 2 k
-unfolding digits2
-arm2 n k h e = arm (arc_entry 2) digits2 follow2 (entry_fits 2) n k (ltb→lt n 33 h) e
+at2 : (k : ℕ) (d : Float) → k < 33 → get_or (get_or COEFFICIENTS 2 []) k d ≡ arc_entry 2 k
+unfolding digits2 neg of_bits
+at2 = table_at (arc_entry 2) digits2 (get_or COEFFICIENTS 2 []) follow2 (entry_fits 2) refl
 
-pub arm3 : (n k : ℕ) → T (ltb n 33) → k ≡ n → of_bits binary64 (get_or digits3 n 0) ≡ arc_entry 3 k
-unfolding digits3
-arm3 n k h e = arm (arc_entry 3) digits3 follow3 (entry_fits 3) n k (ltb→lt n 33 h) e
+at3 : (k : ℕ) (d : Float) → k < 33 → get_or (get_or COEFFICIENTS 3 []) k d ≡ arc_entry 3 k
+unfolding digits3 neg of_bits
+at3 = table_at (arc_entry 3) digits3 (get_or COEFFICIENTS 3 []) follow3 (entry_fits 3) refl
 
-pub arm4 : (n k : ℕ) → T (ltb n 33) → k ≡ n → of_bits binary64 (get_or digits4 n 0) ≡ arc_entry 4 k
-unfolding digits4
-arm4 n k h e = arm (arc_entry 4) digits4 follow4 (entry_fits 4) n k (ltb→lt n 33 h) e
+at4 : (k : ℕ) (d : Float) → k < 33 → get_or (get_or COEFFICIENTS 4 []) k d ≡ arc_entry 4 k
+unfolding digits4 neg of_bits
+at4 = table_at (arc_entry 4) digits4 (get_or COEFFICIENTS 4 []) follow4 (entry_fits 4) refl
 
-pub arm5 : (n k : ℕ) → T (ltb n 33) → k ≡ n → of_bits binary64 (get_or digits5 n 0) ≡ arc_entry 5 k
-unfolding digits5
-arm5 n k h e = arm (arc_entry 5) digits5 follow5 (entry_fits 5) n k (ltb→lt n 33 h) e
+at5 : (k : ℕ) (d : Float) → k < 33 → get_or (get_or COEFFICIENTS 5 []) k d ≡ arc_entry 5 k
+unfolding digits5 neg of_bits
+at5 = table_at (arc_entry 5) digits5 (get_or COEFFICIENTS 5 []) follow5 (entry_fits 5) refl
+
+-- any row
+pub coefficient_at : (j k : ℕ) (d : Float) → j < 6 → k < 33 → get_or (get_or COEFFICIENTS j []) k d ≡ arc_entry j k
+coefficient_at zero k d h i = at0 k d i
+coefficient_at (suc zero) k d h i = at1 k d i
+coefficient_at (suc (suc zero)) k d h i = at2 k d i
+coefficient_at (suc (suc (suc zero))) k d h i = at3 k d i
+coefficient_at (suc (suc (suc (suc zero)))) k d h i = at4 k d i
+coefficient_at (suc (suc (suc (suc (suc zero))))) k d h i = at5 k d i
+coefficient_at (suc (suc (suc (suc (suc (suc j)))))) k d h i = absurd (none j h)
+  where
+    none : (j : ℕ) → suc (suc (suc (suc (suc (suc j))))) < 6 → ⊥
+    none j h = omega arith

@@ -2,13 +2,14 @@
 -- that holds of all cells holds of each.
 use mathlib.Core.Path.{◌≡◌, sym, ap, ◌∙◌, subst}
 use mathlib.Core.Bool.{Bool, true, false, not, ◌&&◌}
-use mathlib.Core.List.{List, [], ◌∷◌}
-use Prim.Native.Nat.{ℕ, zero, suc, ◌+◌, ◌-◌, ◌*◌, ◌/◌, ◌%◌, ◌≤◌, ◌<◌, zero-le}
+use mathlib.Core.List.{List, [], ◌∷◌, map}
+use Prim.Native.Nat.{ℕ, zero, suc, ◌+◌, ◌-◌, ◌*◌, ◌/◌, ◌%◌, ◌≤◌, ◌<◌}
 use native.Mathlib.Nat.{le_trans, le_of_eq, le_of_suc-le-suc, not-suc-le-zero, zero-add, suc-add, add-suc, add-zero, mul_assoc, mul_comm, mul_right_comm, mul-le-mul_right, le_of_mul-le-mul_right, div-add-mod'}
 use native.Mathlib.Omega.{arith}
 use lib.IntN.{ℤ}
 use lib.Dec.{T, leb, eqb, leb→le, eqb→eq, T_not}
 use lib.ListN.{length, get_or}
+use Rattle.std.proofs.lemmas.List.{get_or-map}
 use lib.Ieee.{Float, nan, inf, fin, binary64, up, down, of_bits, to_bits, round, fits}
 use lib.Ieee.Bits.{of_bits-to_bits}
 use lib.Ieee.Fits.{and_l, and_r, round-fits, cond-fits, down_pos, eq→eqb}
@@ -37,27 +38,11 @@ pub nearest_fits : (f : Fraction) → T (fits binary64 (nearest_to f))
 nearest_fits f =
     cond-fits binary64 (leb f.minus f.plus) (round binary64 false (f.plus - f.minus) f.over) (round binary64 true (f.minus - f.plus) f.over) (round-fits binary64 false (f.plus - f.minus) f.over) (round-fits binary64 true (f.minus - f.plus) f.over)
 
--- an arm of a match: k is n
-pub arm : (f : ℕ → Float) (xs : List ℕ) → T (follows f 0 xs) → ((k : ℕ) → T (fits binary64 (f k))) → (n k : ℕ) → n < length xs → k ≡ n → of_bits binary64 (get_or xs n 0) ≡ f k
-arm f xs t g n k h e = ap (λ (z : ℕ). of_bits binary64 z) (from f xs 0 t n h ∙ ap (λ (z : ℕ). to_bits binary64 (f z)) (zero-add n)) ∙ of_bits-to_bits binary64 (f n) (g n) ∙ ap f (sym e)
-
--- the last arm: k is none of the first n numbers
-abbrev pub Rest : ℕ → ℕ → Type 0
-Rest zero k = Unit
-Rest (suc n) k = Rest n k × (k ≡ n → ⊥)
-
-pub rest_above : (n k : ℕ) → Rest n k → n ≤ k
-rest_above zero k r = zero-le
-rest_above (suc n) k r = go n k (rest_above n k r.0) r.1
-  where
-    go : (n k : ℕ) → n ≤ k → (k ≡ n → ⊥) → suc n ≤ k
-    go n k h g = omega arith
-
-pub rest_last : (n k : ℕ) → k < suc n → Rest n k → k ≡ n
-rest_last n k h r = go n k h (rest_above n k r)
-  where
-    go : (n k : ℕ) → k < suc n → n ≤ k → k ≡ n
-    go n k h g = omega arith
+-- a table of floats whose patterns they are has the entry at each place
+pub table_at : (f : ℕ → Float) (xs : List ℕ) (fs : List Float) → T (follows f 0 xs) → ((k : ℕ) → T (fits binary64 (f k))) → fs ≡ map (of_bits binary64) xs → (k : ℕ) (d : Float) → k < length xs → get_or fs k d ≡ f k
+table_at f xs fs t g e k d h =
+    ap (λ (z : List Float). get_or z k d) e ∙ get_or-map (of_bits binary64) xs k 0 d h
+    ∙ ap (λ (z : ℕ). of_bits binary64 z) (from f xs 0 t k h ∙ ap (λ (z : ℕ). to_bits binary64 (f z)) (zero-add k)) ∙ of_bits-to_bits binary64 (f k) (g k)
 
 -- ---- an entry, u units to 1
 unfoldable pub entry : ℕ → Float → Signed

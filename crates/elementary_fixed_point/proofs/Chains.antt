@@ -1,6 +1,7 @@
 -- A polynomial by Horner's rule in fixed point, each product's lower 64 bits dropped: how far below the exact one it is, by a table whose
 -- entries are the coefficients rounded down.
-use Rattle.std.proofs.Common.{◌≡◌, ℕ, zero, suc, ◌+◌, ◌-◌, ◌*◌, ◌^◌, ◌<◌, ◌≤◌, Bool, true, ◌&&◌, T, ltb, leb, List, [], ◌∷◌, length, get_or, drop, sym, refl, ap, ◌∙◌, subst, le_trans, le_of_eq, le_of_suc-le-suc, not-suc-le-zero, lt_of_le_of_lt, add-zero, le_of_lt, add-suc, mul-le-mul_right, mul_assoc, suc-mul, suc-add, mul-pos, pow-suc, mul-zero, zero-mul, mul-add, mul_left_comm, arith, lit<, ltb→lt, leb→le, drop-cons, pow_pos}
+use Rattle.std.proofs.Common.{◌≡◌, ℕ, zero, suc, ◌+◌, ◌*◌, ◌^◌, ◌<◌, ◌≤◌, Bool, true, false, ◌&&◌, T, ltb, leb, List, [], ◌∷◌, length, get_or, sym, refl, ap, ◌∙◌, subst, le_trans, le_of_eq, le_of_suc-le-suc, not-suc-le-zero, lt_of_le_of_lt, add-zero, le_of_lt, add-suc, mul-le-mul_right, mul_assoc, suc-mul, suc-add, mul-pos, pow-suc, mul-zero, zero-mul, mul-add, mul_left_comm, arith, lit<, ltb→lt, leb→le, pow_pos}
+use Rattle.std.specs.List.{push}
 use lib.Ieee.Fits.{and_l, and_r}
 use Rattle.elementary_fixed_point.specs.Product.{hi, horner, tabulate}
 use Rattle.elementary_fixed_point.specs.Code.Bounds.{below, Enclosure}
@@ -20,24 +21,29 @@ horner_lt w [] h t = pow_pos 64
 horner_lt w (c ∷ cs) h t =
     step_lt c (horner w cs) w (ltb→lt c (2 ^ 63) (and_l (ltb c (2 ^ 63)) (below (2 ^ 63) cs) t)) (horner_lt w cs h (and_r (ltb c (2 ^ 63)) (below (2 ^ 63) cs) t)) h
 
-pub below_at : (k : ℕ) (xs : List ℕ) → T (below k xs) → (i : ℕ) → i < length xs → get_or xs i 0 < k
+-- ---- Horner's rule from the last entry down: the entries that are left, with p for what stands behind them
+unfoldable pub horner_onto : ℕ → ℕ → List ℕ → ℕ
+horner_onto w p [] = p
+horner_onto w p (c ∷ cs) = c + hi (horner_onto w p cs) w
+
+pub onto_none : (w : ℕ) (cs : List ℕ) → horner_onto w 0 cs ≡ horner w cs
+unfolding horner_onto horner
+onto_none w [] = refl
+onto_none w (c ∷ cs) = ap (λ z. c + hi z w) (onto_none w cs)
+
+pub onto_last : (w p c : ℕ) (cs : List ℕ) → horner_onto w p (push cs c) ≡ horner_onto w (c + hi p w) cs
+unfolding horner_onto
+onto_last w p c [] = refl
+onto_last w p c (d ∷ cs) = ap (λ z. d + hi z w) (onto_last w p c cs)
+
+pub below_last : (k c : ℕ) (cs : List ℕ) → T (below k (push cs c)) → T (below k cs) × (c < k)
 unfolding below
-below_at k [] t i h = absurd (not-suc-le-zero h)
-below_at k (c ∷ cs) t zero h = ltb→lt c k (and_l (ltb c k) (below k cs) t)
-below_at k (c ∷ cs) t (suc i) h = below_at k cs (and_r (ltb c k) (below k cs) t) i (le_of_suc-le-suc h)
-
--- one step from the end of a table
-pub horner_drop : (w : ℕ) (c : List ℕ) (i p : ℕ) → 0 < i → i ≤ length c → p ≡ horner w (drop i c) → get_or c (i - 1) 0 + hi p w ≡ horner w (drop (i - 1) c)
-unfolding horner
-horner_drop w c i p z h e =
-    ap (λ (x : ℕ). get_or c (i - 1) 0 + hi x w) (e ∙ ap (λ (k : ℕ). horner w (drop k c)) (back i z))
-    ∙ sym (ap (horner w) (drop-cons c (i - 1) 0 (under i (length c) z h)))
+below_last k c [] t = (tt, ltb→lt c k (and_l (ltb c k) true t))
+below_last k c (d ∷ cs) t = let r = below_last k c cs (and_r (ltb d k) (below k (push cs c)) t) in (and_both (ltb d k) (below k cs) (and_l (ltb d k) (below k (push cs c)) t) r.0, r.1)
   where
-    back : (i : ℕ) → 0 < i → i ≡ suc (i - 1)
-    back i z = omega arith
-
-    under : (i n : ℕ) → 0 < i → i ≤ n → i - 1 < n
-    under i n z h = omega arith
+    and_both : (p q : Bool) → T p → T q → T (p && q)
+    and_both true q x y = y
+    and_both false q x y = x
 
 -- ---- a table made by a rule has the rule's number at each place
 

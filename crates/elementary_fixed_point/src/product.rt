@@ -31,11 +31,9 @@ pub fn chain(w: u64, c: &[u64]) -> u64
     requires t { T (below (2 ^ 63) c.now) }
     ensures { result ≡ horner w c.now }
 {
-    let mut p: u64 = 0;
-    let mut i = c.len();
-    while 0 < i {
-        i -= 1;
-        p = horner_step(c[i], p, w);
+    let mut p = 0;
+    for coefficient in c.iter().rev() {
+        p = horner_step(*coefficient, p, w);
     }
     p
 }

@@ -10,5 +10,5 @@ pub fn ratio(a: f64, b: f64) -> u64
     ensures near { NearRatio a b result }
 {
     let x = crate::conversion::from_f64(a / b);
-    if x < 256 { 0 } else { x - 256 }
+    x.saturating_sub(256)
 }

@@ -25,7 +25,7 @@ table_rounded : T (rounded (reciprocal 41) (factorial 41) 2 1 (2 ^ 62) 1 table)
 unfolding table tabulate rounded reciprocal factorial
 table_rounded = tt
 
-table_below : T (below (2 ^ 63) table)
+pub table_below : T (below (2 ^ 63) table)
 unfolding table tabulate below
 table_below = tt
 

@@ -25,7 +25,7 @@ fn to_common(d: u64) -> u64
 fn at_least_one(g: u64) -> u64
     ensures { result ≡ at_least_one g }
 {
-    if g == 0 { 1 } else { g }
+    g.max(1)
 }
 
 // The logarithm of s / 2^52 * 2^(p - 1074).
@@ -54,7 +54,8 @@ fn past_one(u: u64) -> u64
     n - (h >> 18)
 }
 
-// -ln(1 - u / 2^53) in units of 2^-81, by two terms.
+// -ln(1 - u / 2^53) in units of 2^-81, by two terms. Not one function with the one before: the unit of u and the sign of the second term differ,
+// so that it would take both as arguments.
 fn before_one(u: u64) -> u64
     requires { u < 2 ^ 34 }
     ensures { result ≡ before_one u }
@@ -98,11 +99,7 @@ fn far_from_one(b: u64) -> f64
 fn is_near_one(b: u64) -> bool
     ensures { result ≡ is_near_one b }
 {
-    if 0x3fef_fffc_0000_0000 < b {
-        b < 0x3ff0_0004_0000_0000
-    } else {
-        false
-    }
+    0x3fef_fffc_0000_0000 < b && b < 0x3ff0_0004_0000_0000
 }
 
 // The logarithm of the finite number above 0 with the pattern b.

@@ -2,16 +2,18 @@
 use mathlib.Core.Path.{◌≡◌, refl, sym, ap, ◌∙◌, subst}
 use mathlib.Core.Bool.{true}
 use mathlib.Core.List.{List, [], ◌∷◌}
-use Prim.Native.Nat.{ℕ}
+use Prim.Native.Nat.{ℕ, zero, suc, ◌<◌}
+use native.Mathlib.Omega.{arith}
 use lib.Count.{count_trailing_zeros}
-use lib.Dec.{T, ltb, eqb, eqb→eq, ltb→lt}
+use lib.Dec.{T, eqb, eqb→eq}
 use lib.ListN.{get_or}
-use lib.Ieee.{binary64, of_bits, to_bits, round, size, span, climb, units, odd, fits}
+use lib.Ieee.{Float, binary64, neg, of_bits, to_bits, round, size, span, climb, units, odd, fits}
 use lib.Ieee.Bits.{of_bits-to_bits}
 use Rattle.elementary_series.specs.Series.{factorial, terms, reciprocal}
 use Rattle.elementary_cells.specs.Polynomials.{shift, scale}
-use Rattle.elementary_cells.proofs.Entries.{follows, nearest_fits, arm}
+use Rattle.elementary_cells.proofs.Entries.{follows, nearest_fits, table_at}
 use Rattle.elementary_logarithm_table.specs.Sum.{L, over_ten}
+use Rattle.elementary_logarithm_table.specs.declared.TheConstants.{COEFFICIENTS}
 use Rattle.elementary_logarithm_table.specs.Table.{odd_terms, log_coefficients, around, log_entry, common_two}
 
 -- the patterns that the code's decimals stand for
@@ -85,30 +87,43 @@ pub entry_fits : (j k : ℕ) → T (fits binary64 (log_entry j k))
 unfolding log_entry
 entry_fits j k = nearest_fits (over_ten (around k j))
 
--- an arm of the match: k is n
-pub arm0 : (n k : ℕ) → T (ltb n 22) → k ≡ n → of_bits binary64 (get_or row0 n 0) ≡ log_entry 0 k
-unfolding row0
-arm0 n k h e = arm (log_entry 0) row0 row0_follows (entry_fits 0) n k (ltb→lt n 22 h) e
+-- the rows of the code's table are of these patterns
+at0 : (k : ℕ) (d : Float) → k < 22 → get_or (get_or COEFFICIENTS 0 []) k d ≡ log_entry 0 k
+unfolding row0 neg of_bits
+at0 = table_at (log_entry 0) row0 (get_or COEFFICIENTS 0 []) row0_follows (entry_fits 0) refl
 
-pub arm1 : (n k : ℕ) → T (ltb n 22) → k ≡ n → of_bits binary64 (get_or row1 n 0) ≡ log_entry 1 k
-unfolding row1
-arm1 n k h e = arm (log_entry 1) row1 row1_follows (entry_fits 1) n k (ltb→lt n 22 h) e
+at1 : (k : ℕ) (d : Float) → k < 22 → get_or (get_or COEFFICIENTS 1 []) k d ≡ log_entry 1 k
+unfolding row1 neg of_bits
+at1 = table_at (log_entry 1) row1 (get_or COEFFICIENTS 1 []) row1_follows (entry_fits 1) refl
 
-pub arm2 : (n k : ℕ) → T (ltb n 22) → k ≡ n → of_bits binary64 (get_or row2 n 0) ≡ log_entry 2 k
-unfolding row2
-arm2 n k h e = arm (log_entry 2) row2 row2_follows (entry_fits 2) n k (ltb→lt n 22 h) e
+at2 : (k : ℕ) (d : Float) → k < 22 → get_or (get_or COEFFICIENTS 2 []) k d ≡ log_entry 2 k
+unfolding row2 neg of_bits
+at2 = table_at (log_entry 2) row2 (get_or COEFFICIENTS 2 []) row2_follows (entry_fits 2) refl
 
-pub arm3 : (n k : ℕ) → T (ltb n 22) → k ≡ n → of_bits binary64 (get_or row3 n 0) ≡ log_entry 3 k
-unfolding row3
-arm3 n k h e = arm (log_entry 3) row3 row3_follows (entry_fits 3) n k (ltb→lt n 22 h) e
+at3 : (k : ℕ) (d : Float) → k < 22 → get_or (get_or COEFFICIENTS 3 []) k d ≡ log_entry 3 k
+unfolding row3 neg of_bits
+at3 = table_at (log_entry 3) row3 (get_or COEFFICIENTS 3 []) row3_follows (entry_fits 3) refl
 
-pub arm4 : (n k : ℕ) → T (ltb n 22) → k ≡ n → of_bits binary64 (get_or row4 n 0) ≡ log_entry 4 k
-unfolding row4
-arm4 n k h e = arm (log_entry 4) row4 row4_follows (entry_fits 4) n k (ltb→lt n 22 h) e
+at4 : (k : ℕ) (d : Float) → k < 22 → get_or (get_or COEFFICIENTS 4 []) k d ≡ log_entry 4 k
+unfolding row4 neg of_bits
+at4 = table_at (log_entry 4) row4 (get_or COEFFICIENTS 4 []) row4_follows (entry_fits 4) refl
 
-pub arm5 : (n k : ℕ) → T (ltb n 22) → k ≡ n → of_bits binary64 (get_or row5 n 0) ≡ log_entry 5 k
-unfolding row5
-arm5 n k h e = arm (log_entry 5) row5 row5_follows (entry_fits 5) n k (ltb→lt n 22 h) e
+at5 : (k : ℕ) (d : Float) → k < 22 → get_or (get_or COEFFICIENTS 5 []) k d ≡ log_entry 5 k
+unfolding row5 neg of_bits
+at5 = table_at (log_entry 5) row5 (get_or COEFFICIENTS 5 []) row5_follows (entry_fits 5) refl
+
+-- any row
+pub coefficient_at : (j k : ℕ) (d : Float) → j < 6 → k < 22 → get_or (get_or COEFFICIENTS j []) k d ≡ log_entry j k
+coefficient_at zero k d h i = at0 k d i
+coefficient_at (suc zero) k d h i = at1 k d i
+coefficient_at (suc (suc zero)) k d h i = at2 k d i
+coefficient_at (suc (suc (suc zero))) k d h i = at3 k d i
+coefficient_at (suc (suc (suc (suc zero)))) k d h i = at4 k d i
+coefficient_at (suc (suc (suc (suc (suc zero))))) k d h i = at5 k d i
+coefficient_at (suc (suc (suc (suc (suc (suc j)))))) k d h i = absurd (none j h)
+  where
+    none : (j : ℕ) → suc (suc (suc (suc (suc (suc j))))) < 6 → ⊥
+    none j h = omega arith
 
 -- ---- the logarithm of 2
 two_bits : eqb 0x3fd34413509f79ff (to_bits binary64 common_two) ≡ true

@@ -1,14 +1,15 @@
 -- Bits shifted in: the first ones, then a power of two at a time; and the upper bits of what is left.
 use mathlib.Core.Path.{◌≡◌, refl, sym, ap, ◌∙◌}
-use Prim.Native.Nat.{ℕ, zero, suc, ◌+◌, ◌*◌, ◌/◌, ◌%◌, ◌^◌, ◌≤◌, ◌<◌}
-use native.Mathlib.Nat.{lt_of_lt_of_le, mul_assoc, mul_comm, mul_left_comm, mul-one, mul-zero, add-mul, mod-mod, mod-eq_of_lt, mul-add-mod_self_right, div-add-mod', mul-add-div_right, div-div-eq-div-mul}
+use Prim.Native.Nat.{ℕ, ◌+◌, ◌*◌, ◌/◌, ◌%◌, ◌^◌, ◌≤◌, ◌<◌}
+use native.Mathlib.Nat.{lt_of_lt_of_le, mul_assoc, mul_comm, mul_left_comm, add-mul, mod-mod, mod-eq_of_lt, mul-add-mod_self_right, div-add-mod', mul-add-div_right, div-div-eq-div-mul}
 use native.Mathlib.Omega.{arith}
 use lib.Dec.{lit≤}
 use lib.Arith.{digits_div}
 use lib.Pow.{pow_pos, pow-add, pow_mono, shl_lt}
 use Rattle.elementary_reduction.specs.Reduction.{turn}
-use Rattle.elementary_reduction.specs.declared.limbs.Rest.{Rest}
-use Rattle.elementary_reduction.specs.Code.Limbs.{limbs, value, RestLimbs, Held}
+use Rattle.elementary_reduction.specs.declared.rest.Rest.{Rest}
+use Rattle.elementary_reduction.specs.Code.Limbs.{limbs, RestLimbs}
+use Rattle.elementary_reduction.specs.Code.Rests.{value, Held}
 use Rattle.elementary_reduction.proofs.Columns.{limbs_times}
 use Rattle.elementary_reduction.proofs.TurnLimbs.{B}
 
@@ -21,8 +22,8 @@ same_rest : {v w w0 w1 w2 w3 : ℕ} → v % turn ≡ w % turn → RestLimbs v w0
 same_rest e r = record { is = r.is ∙ e; fits0 = r.fits0; fits1 = r.fits1; fits2 = r.fits2; fits3 = r.fits3 }
 
 -- a remainder is its own
-pub held : (v : ℕ) (r : Rest) → Held v r → Held (value r) r
-held v r h = same_rest (sym (mod-mod v turn) ∙ ap (λ (z : ℕ). z % turn) (sym h.is)) h
+pub own : {v w0 w1 w2 w3 : ℕ} → RestLimbs v w0 w1 w2 w3 → RestLimbs (limbs B w0 w1 w2 w3) w0 w1 w2 w3
+own {v} h = same_rest (sym (mod-mod v turn) ∙ ap (λ (z : ℕ). z % turn) (sym h.is)) h
 
 -- what is made of a remainder is made of the number
 pub of_rest : (v c : ℕ) (r t : Rest) → Held v r → Held (value r * c) t → Held (v * c) t
@@ -81,34 +82,17 @@ first_limbs m s =
 pub start : (m n : ℕ) (r : Rest) → m < 2 ^ 53 → Held (limbs B 0 0 (m % 8192 * 2 ^ (28 + n % 20) % 2 ^ 64) (m / 8192 * 2 ^ (n % 20) % 2 ^ 64)) r → Held (m * 2 ^ (110 + n % 20)) r
 start m n r f = same_rest (ap (λ (z : ℕ). z % turn) ((λ i. limbs B 0 0 (low_is m n i) (high_is m n f i)) ∙ first_limbs m (n % 20)))
 
--- ---- X more where k is odd: none, twenty, and twice as many
-pub none : (X k : ℕ) (r : Rest) → k % 2 ≡ 0 → Held (value r) r → Held (value r * 2 ^ (X * (k % 2))) r
-none X k r e = same_rest (ap (λ (z : ℕ). z % turn) (sym (mul-one (value r)) ∙ ap (λ (z : ℕ). value r * 2 ^ z) (sym (ap (λ (z : ℕ). X * z) e ∙ mul-zero X))))
-
-odd : (k : ℕ) → (k % 2 ≡ 0 → ⊥) → k % 2 ≡ 1
-odd k h = one (k % 2) h (few k)
-  where
-    few : (k : ℕ) → k % 2 < 2
-    few k = omega arith
-
-    much : (d : ℕ) → suc (suc d) < 2 → ⊥
-    much d h = omega arith
-
-    one : (d : ℕ) → (d ≡ 0 → ⊥) → d < 2 → d ≡ 1
-    one zero h f = absurd (h refl)
-    one (suc zero) h f = refl
-    one (suc (suc d)) h f = absurd (much d f)
-
-pub twenty : (k : ℕ) (r t : Rest) → (k % 2 ≡ 0 → ⊥) → Held (limbs B (r.w0 * 1048576) (r.w1 * 1048576) (r.w2 * 1048576) (r.w3 * 1048576)) t → Held (value r * 2 ^ (20 * (k % 2))) t
-twenty k r t h = same_rest (ap (λ (z : ℕ). z % turn) (scaled r.w0 r.w1 r.w2 r.w3 ∙ ap (λ (z : ℕ). value r * 2 ^ (20 * z)) (sym (odd k h))))
+-- ---- twenty more, and twice as many
+pub twenty : (r t : Rest) → Held (limbs B (r.w.w0 * 1048576) (r.w.w1 * 1048576) (r.w.w2 * 1048576) (r.w.w3 * 1048576)) t → Held (value r * 2 ^ 20) t
+twenty r t = same_rest (ap (λ (z : ℕ). z % turn) (scaled r.w.w0 r.w.w1 r.w.w2 r.w.w3))
   where
     scaled : (w0 w1 w2 w3 : ℕ) → limbs B (w0 * 1048576) (w1 * 1048576) (w2 * 1048576) (w3 * 1048576) ≡ limbs B w0 w1 w2 w3 * 1048576
     scaled w0 w1 w2 w3 = (λ i. limbs B (mul_comm w0 1048576 i) (mul_comm w1 1048576 i) (mul_comm w2 1048576 i) (mul_comm w3 1048576 i)) ∙ limbs_times 1048576 B w0 w1 w2 w3 ∙ mul_comm 1048576 (limbs B w0 w1 w2 w3)
 
-pub twice : (X k : ℕ) (r h t : Rest) → (k % 2 ≡ 0 → ⊥) → Held (value r * 2 ^ X) h → Held (value h * 2 ^ X) t → Held (value r * 2 ^ (2 * X * (k % 2))) t
-twice X k r h t o a b = same_rest (ap (λ (z : ℕ). z % turn) (mul_assoc (value r) (2 ^ X) (2 ^ X) ∙ ap (λ (z : ℕ). value r * z) (sym (pow-add 2 X X) ∙ ap (λ (z : ℕ). 2 ^ z) (two X ∙ ap (λ (z : ℕ). 2 * X * z) (sym (odd k o)))))) (of_rest (value r * 2 ^ X) (2 ^ X) h t a b)
+pub twice : (X : ℕ) (r h t : Rest) → Held (value r * 2 ^ X) h → Held (value h * 2 ^ X) t → Held (value r * 2 ^ (2 * X)) t
+twice X r h t a b = same_rest (ap (λ (z : ℕ). z % turn) (mul_assoc (value r) (2 ^ X) (2 ^ X) ∙ ap (λ (z : ℕ). value r * z) (sym (pow-add 2 X X) ∙ ap (λ (z : ℕ). 2 ^ z) (two X)))) (of_rest (value r * 2 ^ X) (2 ^ X) h t a b)
   where
-    two : (X : ℕ) → X + X ≡ 2 * X * 1
+    two : (X : ℕ) → X + X ≡ 2 * X
     two X = omega arith
 
 -- ---- k times twenty more, by the binary digits of k

@@ -5,8 +5,11 @@ ghost use Rattle.std.specs.Prelude.{◌≡◌, ◌+◌, ◌*◌, ◌/◌, ◌%�
 ghost use Rattle.std.specs.Float.Ieee.Positive.{num, den};
 ghost use Rattle.elementary_reduction.specs.Reduction as Reduction;
 
+use rest::Limbs;
+
 mod limbs;
 mod powers;
+mod rest;
 
 // The remainder of m * 2^(110 + n) units of 2^-160, in units of 2^-61. The first step takes all of n bits but a multiple of twenty, so that an angle below 2^22
 // needs no other.
@@ -15,12 +18,16 @@ fn shifted(m: u64, n: u64) -> u64
     ensures { result ≡ m * 2 ^ (110 + n) % Reduction.turn / 2 ^ 99 }
 {
     let s = n % 20;
-    let r = limbs::remainder(0, 0, (m % 8192) << (28 + s), (m / 8192) << s);
+    let r = limbs::remainder(Limbs {
+        w0: 0,
+        w1: 0,
+        w2: (m % 8192) << (28 + s),
+        w3: (m / 8192) << s,
+    });
     if n < 20 {
-        return limbs::upper(r);
+        return r.upper();
     }
-    let t = powers::shifted(r, n / 20);
-    limbs::upper(t)
+    r.shifted(n / 20).upper()
 }
 
 // Of an angle from 4 on, by its significand and its exponent.

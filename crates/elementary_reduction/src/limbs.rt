@@ -1,14 +1,9 @@
 // Whole numbers of 2^-160 in four limbs of 41 bits, and their remainder by the turn. A limb times 2^20 fits a u64 with room for a column's loans.
 ghost use Rattle.std.specs.Prelude.{◌≡◌, ◌+◌, ◌-◌, ◌*◌, ◌/◌, ◌^◌, ◌<◌, ◌≤◌};
-ghost use Rattle.elementary_reduction.specs.Code.Limbs.{limbs, value, Held};
+ghost use Rattle.elementary_reduction.specs.Code.Limbs.{limbs};
+ghost use Rattle.elementary_reduction.specs.Code.Rests.{value, Held};
 
-#[derive(Clone, Copy)]
-pub struct Rest {
-    pub w0: u64,
-    pub w1: u64,
-    pub w2: u64,
-    pub w3: u64,
-}
+use crate::rest::{Limbs, Rest};
 
 // The turn in limbs, the lowest first.
 const TURN0: u64 = 589619687492;
@@ -35,48 +30,49 @@ fn column(a: u64, loan: u64, back: u64, taken: u64) -> u64
 }
 
 // One turn less, where there is one.
-fn less_turn(w0: u64, w1: u64, w2: u64, w3: u64) -> Rest
-    requires { (w0 < 2 ^ 41) × (w1 < 2 ^ 41) × (w2 < 2 ^ 41) × (w3 < 2 ^ 40) }
-    ensures { Held (limbs (2 ^ 41) w0 w1 w2 w3) result }
+fn less_turn(w: Limbs) -> Rest
+    requires { (w.w0 < 2 ^ 41) × (w.w1 < 2 ^ 41) × (w.w2 < 2 ^ 41) × (w.w3 < 2 ^ 40) }
+    ensures { Held (limbs (2 ^ 41) w.w0 w.w1 w.w2 w.w3) result }
 {
-    let s0 = column(w0, 1, 1, TURN0);
-    let s1 = column(w1, 1, s0 / BASE, TURN1);
-    let s2 = column(w2, 1, s1 / BASE, TURN2);
-    let s3 = w3 + s2 / BASE;
+    let s0 = column(w.w0, 1, 1, TURN0);
+    let s1 = column(w.w1, 1, s0 / BASE, TURN1);
+    let s2 = column(w.w2, 1, s1 / BASE, TURN2);
+    let s3 = w.w3 + s2 / BASE;
     if s3 <= TURN3 {
-        return Rest {
-            w0: w0,
-            w1: w1,
-            w2: w2,
-            w3: w3,
-        };
+        return Rest { w };
     }
-    let h = s3 - TURN3 - 1;
     Rest {
-        w0: s0 % BASE,
-        w1: s1 % BASE,
-        w2: s2 % BASE,
-        w3: h,
+        w: Limbs {
+            w0: s0 % BASE,
+            w1: s1 % BASE,
+            w2: s2 % BASE,
+            w3: s3 - TURN3 - 1,
+        },
     }
 }
 
 // The remainder by the turn of limbs that are too large by twenty bits. The quotient of the top limbs, by TURN3 + 1, is at most one too small.
-pub fn remainder(a0: u64, a1: u64, a2: u64, a3: u64) -> Rest
-    requires { (a0 < 2 ^ 61) × (a1 < 2 ^ 61) × (a2 < 2 ^ 61) × (a3 < 2 ^ 60) }
-    ensures { Held (limbs (2 ^ 41) a0 a1 a2 a3) result }
+pub fn remainder(a: Limbs) -> Rest
+    requires { (a.w0 < 2 ^ 61) × (a.w1 < 2 ^ 61) × (a.w2 < 2 ^ 61) × (a.w3 < 2 ^ 60) }
+    ensures { Held (limbs (2 ^ 41) a.w0 a.w1 a.w2 a.w3) result }
 {
-    let q = a3 / (TURN3 + 1);
-    let t0 = column(a0, LOAN, LOAN, q * TURN0);
-    let t1 = column(a1, LOAN, t0 / BASE, q * TURN1);
-    let t2 = column(a2, LOAN, t1 / BASE, q * TURN2);
-    let t3 = a3 + t2 / BASE - q * TURN3 - LOAN;
-    less_turn(t0 % BASE, t1 % BASE, t2 % BASE, t3)
+    let q = a.w3 / (TURN3 + 1);
+    let t0 = column(a.w0, LOAN, LOAN, q * TURN0);
+    let t1 = column(a.w1, LOAN, t0 / BASE, q * TURN1);
+    let t2 = column(a.w2, LOAN, t1 / BASE, q * TURN2);
+    less_turn(Limbs {
+        w0: t0 % BASE,
+        w1: t1 % BASE,
+        w2: t2 % BASE,
+        w3: a.w3 + t2 / BASE - q * TURN3 - LOAN,
+    })
 }
 
-// The bits from 2^99 on: the units of 2^-61.
-pub fn upper(r: Rest) -> u64
-    requires { Held (value r) r }
-    ensures { result ≡ value r / 2 ^ 99 }
-{
-    r.w3 * 16777216 + r.w2 / 131072
+impl Rest {
+    // The bits from 2^99 on: the units of 2^-61.
+    pub fn upper(self) -> u64
+        ensures { result ≡ value self / 2 ^ 99 }
+    {
+        self.w.w3 * 16777216 + self.w.w2 / 131072
+    }
 }

@@ -1,89 +1,80 @@
 // A remainder times a power of two, twenty bits a step. There is no loop: of a function with one the compiler does not know that it returns, and then what
 // surrounds a call of sine or cosine comes out slower.
-ghost use Rattle.std.specs.Prelude.{◌*◌, ◌/◌, ◌%◌, ◌^◌, ◌<◌};
-ghost use Rattle.elementary_reduction.specs.Code.Limbs.{value, Held};
+ghost use Rattle.std.specs.Prelude.{ℕ, ◌*◌, ◌/◌, ◌%◌, ◌^◌, ◌<◌};
+ghost use Rattle.elementary_reduction.specs.Code.Rests.{value, Held};
 
-use crate::limbs::{Rest, remainder};
+use crate::limbs::remainder;
+use crate::rest::{Limbs, Rest};
+use std::marker::PhantomData;
 
 // 2^20.
 const STEP: u64 = 1048576;
 
-// Times 2^20 where k is odd.
-fn by_20(r: Rest, k: u64) -> Rest
-    requires { Held (value r) r }
-    ensures { Held (value r * 2 ^ (20 * (k % 2))) result }
-{
-    if k % 2 == 0 {
-        return r;
-    }
-    remainder(r.w0 * STEP, r.w1 * STEP, r.w2 * STEP, r.w3 * STEP)
+// A power of two that a remainder can be taken times.
+pub trait Power {
+    ghost bits: { ℕ };
+
+    fn times(r: Rest) -> Rest
+        ensures { Held (value r * 2 ^ bits) result };
 }
 
-// Times 2^40 where k is odd; and so on.
-fn by_40(r: Rest, k: u64) -> Rest
-    requires { Held (value r) r }
-    ensures { Held (value r * 2 ^ (40 * (k % 2))) result }
-{
-    if k % 2 == 0 {
-        return r;
-    }
-    let h = by_20(r, 1);
-    by_20(h, 1)
+pub struct By20;
+
+// A power taken twice.
+pub struct Twice<P> {
+    of: PhantomData<P>,
 }
 
-fn by_80(r: Rest, k: u64) -> Rest
-    requires { Held (value r) r }
-    ensures { Held (value r * 2 ^ (80 * (k % 2))) result }
-{
-    if k % 2 == 0 {
-        return r;
+type By40 = Twice<By20>;
+
+type By80 = Twice<By40>;
+
+type By160 = Twice<By80>;
+
+type By320 = Twice<By160>;
+
+type By640 = Twice<By320>;
+
+impl Power for By20 {
+    ghost bits = { 20 };
+
+    fn times(r: Rest) -> Rest {
+        let w = r.w;
+        remainder(Limbs {
+            w0: w.w0 * STEP,
+            w1: w.w1 * STEP,
+            w2: w.w2 * STEP,
+            w3: w.w3 * STEP,
+        })
     }
-    let h = by_40(r, 1);
-    by_40(h, 1)
 }
 
-fn by_160(r: Rest, k: u64) -> Rest
-    requires { Held (value r) r }
-    ensures { Held (value r * 2 ^ (160 * (k % 2))) result }
-{
-    if k % 2 == 0 {
-        return r;
+impl<P: Power> Power for Twice<P> {
+    ghost bits = { 2 * P.bits };
+
+    fn times(r: Rest) -> Rest {
+        P::times(P::times(r))
     }
-    let h = by_80(r, 1);
-    by_80(h, 1)
 }
 
-fn by_320(r: Rest, k: u64) -> Rest
-    requires { Held (value r) r }
-    ensures { Held (value r * 2 ^ (320 * (k % 2))) result }
+// Times the power where k is odd.
+fn where_odd<P: Power>(r: Rest, k: u64) -> Rest
+    ensures { Held (value r * 2 ^ (P.bits * (k % 2))) result }
 {
-    if k % 2 == 0 {
-        return r;
-    }
-    let h = by_160(r, 1);
-    by_160(h, 1)
+    if k % 2 == 0 { r } else { P::times(r) }
 }
 
-fn by_640(r: Rest, k: u64) -> Rest
-    requires { Held (value r) r }
-    ensures { Held (value r * 2 ^ (640 * (k % 2))) result }
-{
-    if k % 2 == 0 {
-        return r;
+impl Rest {
+    // k times twenty bits more, a binary digit of k at a time.
+    pub fn shifted(self, k: u64) -> Rest
+        requires { k < 64 }
+        ensures { Held (value self * 2 ^ (20 * k)) result }
+    {
+        let r1 = where_odd::<By20>(self, k);
+        let r2 = where_odd::<By40>(r1, k / 2);
+        let r3 = where_odd::<By80>(r2, k / 4);
+        let r4 = where_odd::<By160>(r3, k / 8);
+        let r5 = where_odd::<By320>(r4, k / 16);
+        where_odd::<By640>(r5, k / 32)
     }
-    let h = by_320(r, 1);
-    by_320(h, 1)
-}
-
-// k times twenty bits more, a binary digit of k at a time.
-pub fn shifted(r: Rest, k: u64) -> Rest
-    requires { Held (value r) r × (k < 64) }
-    ensures { Held (value r * 2 ^ (20 * k)) result }
-{
-    let r1 = by_20(r, k);
-    let r2 = by_40(r1, k / 2);
-    let r3 = by_80(r2, k / 4);
-    let r4 = by_160(r3, k / 8);
-    let r5 = by_320(r4, k / 16);
-    by_640(r5, k / 32)
 }

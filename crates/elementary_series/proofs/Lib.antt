@@ -1,5 +1,4 @@
 -- Laws that the crates of the elementary functions cite. Nothing in them is about one function.
-pub mod TwoDigits
 pub mod Enclosures
 pub mod PowerSums
 pub mod Tails

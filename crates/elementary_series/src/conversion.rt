@@ -6,5 +6,5 @@ ghost use Rattle.elementary_series.specs.Conversion.{scaled};
 pub fn to_f64(d: u64, unit: f64) -> f64
     ensures { result ≡ scaled d unit }
 {
-    ieee754::conversion::u64_to_f64(d) * unit
+    elementary_fixed_point::conversion::to_f64(d, unit)
 }

@@ -1,11 +1,9 @@
 // Sine and cosine of x units of 2^-61, up to 44 / 7, by their Taylor sums: the added and the subtracted terms are two polynomials in x^4.
 ghost use Rattle.std.specs.Prelude.{◌≡◌, ltb, ◌^◌, ◌<◌};
-ghost use Rattle.elementary_fixed_point.specs.Product.{horner};
-ghost use Rattle.ieee754_rounding.specs.Distance.{distance};
 ghost use Rattle.ieee754.specs.Binary64.{two_to_minus53};
 ghost use Rattle.ieee754.specs.Sign.{signed};
 ghost use Rattle.elementary_sincos.specs.Steps.{difference};
-ghost use Rattle.elementary_sincos.specs.Code.Parts.{sine_from, cosine_from, sine_plus, sine_minus, cosine_plus, cosine_minus};
+ghost use Rattle.elementary_sincos.specs.Code.Parts.{sine_from, cosine_from};
 
 use elementary_fixed_point::{conversion, product};
 
@@ -61,41 +59,6 @@ const COSINE_MINUS: [u64; 9] = [
     154698008,
 ];
 
-fn sine_plus(w: u64) -> u64
-    requires { w < 2 ^ 63 }
-    ensures { result ≡ horner w sine_plus }
-{
-    product::chain(w, &SINE_PLUS)
-}
-
-fn sine_minus(w: u64) -> u64
-    requires { w < 2 ^ 63 }
-    ensures { result ≡ horner w sine_minus }
-{
-    product::chain(w, &SINE_MINUS)
-}
-
-fn cosine_plus(w: u64) -> u64
-    requires { w < 2 ^ 63 }
-    ensures { result ≡ horner w cosine_plus }
-{
-    product::chain(w, &COSINE_PLUS)
-}
-
-fn cosine_minus(w: u64) -> u64
-    requires { w < 2 ^ 63 }
-    ensures { result ≡ horner w cosine_minus }
-{
-    product::chain(w, &COSINE_MINUS)
-}
-
-// |p - n|.
-fn gap(p: u64, n: u64) -> u64
-    ensures { result ≡ distance p n }
-{
-    if n <= p { p - n } else { n - p }
-}
-
 // The unit 2^-53 with the sign of p - n, changed where negative says so. A choice between two constants is no jump.
 fn signed_unit(p: u64, n: u64, negative: bool) -> f64
     ensures { result ≡ signed negative (signed (ltb p n) two_to_minus53) }
@@ -112,7 +75,7 @@ fn signed_unit(p: u64, n: u64, negative: bool) -> f64
 fn signed_difference(p: u64, n: u64, negative: bool) -> f64
     ensures { result ≡ signed negative (difference p n) }
 {
-    let d = gap(p, n);
+    let d = p.abs_diff(n);
     let u = signed_unit(p, n, negative);
     conversion::to_f64(d, u)
 }
@@ -123,8 +86,8 @@ pub fn sine(x: u64, x2: u64, x4: u64, negative: bool) -> f64
     ensures { result ≡ signed negative (sine_from x x2 x4) }
 {
     let x3 = product::high_product(x, x2);
-    let a = sine_plus(x4);
-    let b = sine_minus(x4);
+    let a = product::chain(x4, &SINE_PLUS);
+    let b = product::chain(x4, &SINE_MINUS);
     let p = product::high_product(x, a);
     let n = product::high_product(x3, b);
     signed_difference(p, n, negative)
@@ -135,8 +98,8 @@ pub fn cosine(x2: u64, x4: u64) -> f64
     requires { x4 < 2 ^ 63 }
     ensures { result ≡ cosine_from x2 x4 }
 {
-    let p = cosine_plus(x4);
-    let b = cosine_minus(x4);
+    let p = product::chain(x4, &COSINE_PLUS);
+    let b = product::chain(x4, &COSINE_MINUS);
     let n = product::high_product(x2, b);
     signed_difference(p, n, false)
 }

@@ -1,14 +1,15 @@
 -- The digits of the code's tables are those of the rule: one computed test for each table.
-use mathlib.Core.Path.{◌≡◌}
+use mathlib.Core.Path.{◌≡◌, refl}
 use mathlib.Core.List.{List, [], ◌∷◌}
-use Prim.Native.Nat.{ℕ}
+use Prim.Native.Nat.{ℕ, ◌<◌}
 use lib.Count.{count_trailing_zeros}
-use lib.Dec.{T, ltb, ltb→lt}
+use lib.Dec.{T}
 use lib.ListN.{get_or}
-use lib.Ieee.{binary64, of_bits, to_bits, round, size, span, climb, units, odd}
+use lib.Ieee.{Float, neg, of_bits, to_bits, round, size, span, climb, units, odd}
 use Rattle.elementary_series.specs.Series.{factorial, terms, inverse_factorial}
-use Rattle.elementary_cells.proofs.Entries.{follows, nearest_fits, arm}
+use Rattle.elementary_cells.proofs.Entries.{follows, nearest_fits, table_at}
 use Rattle.elementary_sincos_table.specs.Taylor.{sine_sum, cosine_sum}
+use Rattle.elementary_sincos_table.specs.declared.TheConstants.{SINES, COSINES}
 use Rattle.elementary_sincos_table.specs.Table.{sine_entry, cosine_entry}
 
 unfoldable pub sines : List ℕ
@@ -33,11 +34,11 @@ cosines_follow : T (follows cosine_entry 0 cosines)
 unfolding follows cosines cosine_entry to_bits round size units odd span climb count_trailing_zeros terms inverse_factorial factorial
 cosines_follow = tt
 
--- an arm of the match: k is n
-pub sine_arm : (n k : ℕ) → T (ltb n 26) → k ≡ n → of_bits binary64 (get_or sines n 0) ≡ sine_entry k
-unfolding sines
-sine_arm n k h e = arm sine_entry sines sines_follow (λ (k : ℕ). unfold sine_entry in nearest_fits (sine_sum k 4)) n k (ltb→lt n 26 h) e
+-- the code's tables are of these patterns
+pub sine_at : (k : ℕ) (d : Float) → k < 26 → get_or SINES k d ≡ sine_entry k
+unfolding sines neg of_bits
+sine_at = table_at sine_entry sines SINES sines_follow (λ (k : ℕ). unfold sine_entry in nearest_fits (sine_sum k 4)) refl
 
-pub cosine_arm : (n k : ℕ) → T (ltb n 26) → k ≡ n → of_bits binary64 (get_or cosines n 0) ≡ cosine_entry k
-unfolding cosines
-cosine_arm n k h e = arm cosine_entry cosines cosines_follow (λ (k : ℕ). unfold cosine_entry in nearest_fits (cosine_sum k 4)) n k (ltb→lt n 26 h) e
+pub cosine_at : (k : ℕ) (d : Float) → k < 26 → get_or COSINES k d ≡ cosine_entry k
+unfolding cosines neg of_bits
+cosine_at = table_at cosine_entry cosines COSINES cosines_follow (λ (k : ℕ). unfold cosine_entry in nearest_fits (cosine_sum k 4)) refl

@@ -2,5 +2,4 @@
 pub mod SampleLaws
 pub mod WindowLaws
 pub mod MirrorLaw
-pub mod RowLaws
 pub mod UpperLaws

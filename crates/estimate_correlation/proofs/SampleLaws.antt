@@ -1,25 +1,31 @@
 -- The samples or their squares: sample k of the prepared list is made of sample k of the list, and there are as many.
 use mathlib.Core.Path.{◌≡◌, refl, ap, sym, ◌∙◌}
 use mathlib.Core.Bool.{Bool, true, false}
-use mathlib.Core.List.{List}
-use Prim.Native.Nat.{ℕ, ◌+◌, ◌*◌, ◌/◌, ◌<◌}
+use mathlib.Core.List.{List, []}
+use Prim.Native.Nat.{ℕ, ◌+◌, ◌*◌, ◌/◌, ◌≤◌, ◌<◌}
 use native.Mathlib.Omega.{arith}
-use lib.ListN.{length}
-use lib.Ieee.{Float, binary32}
+use lib.ListN.{length, get_or, take, drop}
+use lib.Seq.{get_or-take, get_or-drop}
+use lib.Ieee.{Float, nan, binary32}
+use Rattle.std.specs.Simd.{first_chunks}
 use Rattle.sums.specs.Complex.{mul_c}
 use Rattle.sums.specs.Interleaved.{at}
 use Rattle.sums.proofs.Tables.{length_table, at_table}
+use Rattle.sums.proofs.Numbers.{chunk_parts}
 use Rattle.estimate_correlation.specs.Correlation.{prepared}
+use Rattle.estimate_correlation.specs.Code.RunningSums.{sample_of}
 
-module _ (xs : List Float) (k : ℕ) {squared : Bool} {a b : Float} where
-  pub square_at : squared ≡ true → 2 * k + 1 < length xs → a ≡ (mul_c binary32 (at xs k) (at xs k)).0 → b ≡ (mul_c binary32 (at xs k) (at xs k)).1
-      → (a, b) ≡ at (prepared squared xs) k
-  unfolding prepared
-  square_at es h ea eb = rw (es, ea, eb) (sym (at_table (length xs / 2) (λ k. mul_c binary32 (at xs k) (at xs k)) k (omega arith)))
+pub sample_at : (b : Bool) (xs : List Float) (k : ℕ) → 2 * k + 1 < length xs → sample_of b (at xs k) ≡ at (prepared b xs) k
+unfolding prepared
+sample_at false xs k h = refl
+sample_at true xs k h = sym (at_table (length xs / 2) (λ k. mul_c binary32 (at xs k) (at xs k)) k (omega arith))
 
-  pub plain_at : squared ≡ false → a ≡ (at xs k).0 → b ≡ (at xs k).1 → (a, b) ≡ at (prepared squared xs) k
-  unfolding prepared
-  plain_at es ea eb = rw (es, ea, eb)
+-- sample k of those from the a-th on, of n chunks of two numbers
+pub sample_next : (b : Bool) (xs : List Float) (n a k m : ℕ) {chunks : List (List Float)} → chunks ≡ first_chunks 2 (length xs / 2) xs → k < n → a + n ≤ length xs / 2 → a + k ≡ m
+    → sample_of b (get_or (get_or (take n (drop a chunks)) k []) 0 nan, get_or (get_or (take n (drop a chunks)) k []) 1 nan) ≡ at (prepared b xs) m
+sample_next b xs n a k m {chunks} e h le em =
+    rw (get_or-take n (drop a chunks) k [] h, get_or-drop a chunks k [])
+    (ap (sample_of b) (chunk_parts xs (length xs / 2) (a + k) e (omega arith)) ∙ sample_at b xs (a + k) (omega arith) ∙ ap (at (prepared b xs)) em)
 
 pub prepared_count : (b : Bool) (xs : List Float) → length (prepared b xs) / 2 ≡ length xs / 2
 unfolding prepared

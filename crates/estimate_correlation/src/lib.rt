@@ -3,157 +3,155 @@
 // addition waits for the one before it. Those below the diagonal follow from those above.
 #![tactic(auto)]
 
-ghost use Rattle.std.specs.Prelude.{◌≡◌, ◌+◌, ◌-◌, ◌*◌, ◌<◌, ◌≤◌, length};
-ghost use Rattle.sums.specs.Interleaved.{at, table};
-ghost use Rattle.estimate_correlation.specs.Correlation.{prepared, correlation_matrix};
-ghost use Rattle.estimate_correlation.specs.Code.RunningSums.{slid, window, term_added, row_added, rows, upper_sums, turned, mirrored};
+ghost use Rattle.std.specs.Prelude.{◌≡◌, ℕ, ◌+◌, ◌-◌, ◌*◌, ◌<◌, ◌≤◌, length, Bool, true, false};
+ghost use Rattle.std.specs.Float.{binary64};
+ghost use Rattle.sums.specs.Complex.{add_c, mul_c, div_c, conj};
+ghost use Rattle.sums.specs.Interleaved.{parts, number};
+ghost use Rattle.estimate_correlation.specs.Correlation.{prepared, correlation_matrix, matrix};
+ghost use Rattle.estimate_correlation.specs.Code.RunningSums.{sample_of, row_of, Latest, UpperSums, turned, mirrored};
 
+use std::array;
 use sums::complex::Complex;
 
-// Sample k, or its square.
-fn sample(x: &[f32], k: usize, squared: bool) -> Complex
-    requires { 2 * k + 1 < length x.now }
-    ensures { (result.0, result.1) ≡ at (prepared squared x.now) k }
-{
-    let p = 2 * k;
-    let re = x[p];
-    let im = x[p + 1];
-    if squared {
-        let a = ieee754::conversion::f32_to_f64(re * re - im * im);
-        let b = ieee754::conversion::f32_to_f64(re * im + im * re);
-        return Complex(a, b);
+const ZERO: Complex = Complex { re: 0.0, im: 0.0 };
+
+// What is correlated: the samples, or their squares.
+trait Preparation {
+    ghost squared: { Bool };
+
+    fn sample(re: f32, im: f32) -> Complex
+        ensures { parts result ≡ sample_of squared (re, im) };
+}
+
+struct Plain;
+
+struct Squares;
+
+impl Preparation for Plain {
+    ghost squared = { false };
+
+    fn sample(re: f32, im: f32) -> Complex {
+        Complex {
+            re: ieee754::conversion::f32_to_f64(re),
+            im: ieee754::conversion::f32_to_f64(im),
+        }
     }
-    Complex(
-        ieee754::conversion::f32_to_f64(re),
-        ieee754::conversion::f32_to_f64(im),
-    )
+}
+
+impl Preparation for Squares {
+    ghost squared = { true };
+
+    fn sample(re: f32, im: f32) -> Complex {
+        Complex {
+            re: ieee754::conversion::f32_to_f64(re * re - im * im),
+            im: ieee754::conversion::f32_to_f64(re * im + im * re),
+        }
+    }
 }
 
 // The window of the ten latest samples, the latest first, after one sample more.
-fn slide(w: &[f64; 20], re: f64, im: f64) -> [f64; 20]
-    ensures { result ≡ table 10 (slid w.now (re, im)) }
+fn slid(window: &[Complex; 10], latest: Complex) -> [Complex; 10]
+    ensures first { number result 0 ≡ parts latest }
+    ensures later { (i : ℕ) → i < 9 → number result (i + 1) ≡ number window.now i }
 {
-    let mut v: [f64; 20] = [0.0; 20];
-    v[0] = re;
-    v[1] = im;
-    let mut i: usize = 0;
-    while i < 9 {
-        let p = 2 * i;
-        let q = 2 * (i + 1);
-        v[q] = w[p];
-        v[q + 1] = w[p + 1];
-        i += 1;
-    }
-    v
+    array::from_fn(|i| if i == 0 { latest } else { window[i - 1] })
 }
 
-// The window after nine samples: each place brings one more.
-fn first_window(x: &[f32], squared: bool) -> [f64; 20]
+// The window after nine samples.
+fn first_window<P: Preparation>(x: &[f32]) -> [Complex; 10]
     requires { 18 ≤ length x.now }
-    ensures { result ≡ window (prepared squared x.now) 9 }
+    ensures { Latest (prepared P.squared x.now) 9 result }
 {
-    let mut w: [f64; 20] = [0.0; 20];
-    let mut k: usize = 0;
-    while k < 9 {
-        let s = sample(x, k, squared);
-        w = slide(&w, s.0, s.1);
-        k += 1;
+    let mut window = [ZERO; 10];
+    let (samples, _) = x.as_chunks::<2>();
+    for &[re, im] in &samples[..9] {
+        window = slid(&window, P::sample(re, im));
     }
-    w
+    window
 }
 
-// Adds the products of a + ib and the conjugates of n lags to n numbers of a row.
-fn add_to_row(row: &mut [f64], w: &[f64], n: usize, a: f64, b: f64)
-    requires { (length row.old ≡ 2 * n) × (length w.now ≡ 2 * n) }
-    ensures { row.new ≡ table n (term_added row.old w.now (a, b)) }
+// Adds the products of lag i and the conjugates of the lags from i on to row i, from its diagonal on.
+// By index: after a `zip` with `iter_mut` the library's contract says nothing of what the row holds.
+fn add_to_row(row: &mut [Complex; 10], window: &[Complex; 10], i: usize)
+    ensures { (j : ℕ) → i ≤ j → j < 10 → number row.new j ≡ add_c binary64 (number row.old j) (mul_c binary64 (number window.now i) (conj (number window.now j))) }
 {
-    let mut j: usize = 0;
-    while j < n {
-        let q = 2 * j;
-        let t = sums::complex::product(a, b, w[q], -w[q + 1]);
-        let re = row[q] + t.0;
-        let im = row[q + 1] + t.1;
-        row[q] = re;
-        row[q + 1] = im;
-        j += 1;
+    for j in i..10 {
+        row[j] = row[j] + window[i] * window[j].conjugate();
     }
 }
 
-// Adds one place's products to each row, from its diagonal on.
-fn add_place(sums: &mut [f64], w: &[f64])
-    requires { (length sums.old ≡ 200) × (length w.now ≡ 20) }
-    ensures { sums.new ≡ rows 10 (row_added sums.old w.now) }
+// Adds one place's products to each row.
+fn add_place(sums: &mut [[Complex; 10]; 10], window: &[Complex; 10])
+    ensures { (i j : ℕ) → i ≤ j → j < 10 → number (row_of sums.new i) j ≡ add_c binary64 (number (row_of sums.old i) j) (mul_c binary64 (number window.now i) (conj (number window.now j))) }
 {
-    let mut i: usize = 0;
-    while i < 10 {
-        let q = 2 * i;
-        let s = 22 * i;
-        let e = 20 * i + 20;
-        add_to_row(&mut sums[s..e], &w[q..], 10 - i, w[q], w[q + 1]);
-        i += 1;
+    for (i, row) in sums.iter_mut().enumerate() {
+        add_to_row(row, window, i);
     }
 }
 
-// The sums over l places, on and above the diagonal.
-fn upper_sums(x: &[f32], l: usize, squared: bool) -> [f64; 200]
-    requires { 2 * l + 18 ≤ length x.now }
-    ensures { result ≡ upper_sums (prepared squared x.now) l }
+// Adds the products of l places to the sums.
+fn add_places<P: Preparation>(sums: &mut [[Complex; 10]; 10], x: &[f32], l: usize)
+    requires long { 2 * l + 18 ≤ length x.now }
+    requires none { UpperSums (prepared P.squared x.now) 0 sums.old }
+    ensures { UpperSums (prepared P.squared x.now) l sums.new }
 {
-    let mut w = first_window(x, squared);
-    let mut sums: [f64; 200] = [0.0; 200];
-    let mut k: usize = 0;
-    while k < l {
-        let s = sample(x, k + 9, squared);
-        w = slide(&w, s.0, s.1);
-        add_place(&mut sums[..], &w[..]);
-        k += 1;
+    let mut window = first_window::<P>(x);
+    let (samples, _) = x.as_chunks::<2>();
+    for &[re, im] in &samples[9..l + 9] {
+        window = slid(&window, P::sample(re, im));
+        add_place(sums, &window);
     }
-    sums
 }
 
-// The imaginary sum of the mirror image. A sum that starts at +0 is never -0, so a zero stays.
-fn opposite_sum(x: f64) -> f64
-    ensures { result ≡ turned x }
+// The sum on the other side of the diagonal. One that starts at +0 is never -0, so a zero stays.
+fn mirror_image(z: Complex) -> Complex
+    ensures { parts result ≡ ((parts z).0, turned (parts z).1) }
 {
-    if x == 0.0 {
-        return x;
+    if z.im == 0.0 {
+        return z;
     }
-    -x
+    z.conjugate()
 }
 
-// Entry p of the matrix, from the upper part.
-fn entry(s: &[f64; 200], p: usize) -> Complex
-    requires { p < 100 }
-    ensures { (result.0, result.1) ≡ mirrored s.now p }
+// The entry in row i and column j of the matrix, from the upper part.
+fn entry(s: &[[Complex; 10]; 10], i: usize, j: usize) -> Complex
+    requires row { i < 10 }
+    requires column { j < 10 }
+    ensures { parts result ≡ mirrored s.now i j }
 {
-    let i = p / 10;
-    let j = p % 10;
     if j < i {
-        let q = 2 * (10 * j + i);
-        let re = s[q];
-        let im = opposite_sum(s[q + 1]);
-        return Complex(re, im);
+        return mirror_image(s[j][i]);
     }
-    let q = 2 * p;
-    let re = s[q];
-    let im = s[q + 1];
-    Complex(re, im)
+    s[i][j]
 }
 
-pub fn correlation_matrix(x: &[f32], l: usize, squared: bool) -> [f64; 200]
-    requires { 2 * l + 18 ≤ length x.now }
-    ensures { result ≡ correlation_matrix (prepared squared x.now) l }
+// Row i of the matrix: the means over n places.
+fn mean_row(s: &[[Complex; 10]; 10], i: usize, n: f64) -> [Complex; 10]
+    requires { i < 10 }
+    ensures { (j : ℕ) → j < 10 → number result j ≡ div_c binary64 (mirrored s.now i j) n }
 {
-    let n = ieee754::conversion::u64_to_f64(l as u64);
-    let s = upper_sums(x, l, squared);
-    let mut r_xx: [f64; 200] = [0.0; 200];
-    let mut p: usize = 0;
-    while p < 100 {
-        let t = entry(&s, p);
-        let q = 2 * p;
-        r_xx[q] = t.0 / n;
-        r_xx[q + 1] = t.1 / n;
-        p += 1;
+    array::from_fn(|j| entry(s, i, j) / n)
+}
+
+// The whole matrix in the sums' place. The last row goes first: what is below the diagonal comes from the rows above it.
+fn complete(sums: &mut [[Complex; 10]; 10], n: f64)
+    ensures { (i j : ℕ) → i < 10 → j < 10 → number (row_of sums.new i) j ≡ div_c binary64 (mirrored sums.old i j) n }
+{
+    for i in (0..10).rev() {
+        sums[i] = mean_row(sums, i, n);
     }
+}
+
+pub fn correlation_matrix(x: &[f32], l: usize, squared: bool) -> [[Complex; 10]; 10]
+    requires { 2 * l + 18 ≤ length x.now }
+    ensures { matrix result ≡ correlation_matrix (prepared squared x.now) l }
+{
+    let mut r_xx = [[ZERO; 10]; 10];
+    if squared {
+        add_places::<Squares>(&mut r_xx, x, l);
+    } else {
+        add_places::<Plain>(&mut r_xx, x, l);
+    }
+    complete(&mut r_xx, ieee754::conversion::u64_to_f64(l as u64));
     r_xx
 }

@@ -2,24 +2,15 @@
 use mathlib.Core.Path.{◌≡◌, refl}
 use mathlib.Core.Bool.{true, false}
 use mathlib.Core.List.{List}
-use Prim.Native.Nat.{ℕ, suc, ◌+◌, ◌*◌, ◌-◌, ◌/◌, ◌≤◌, ◌<◌}
+use Prim.Native.Nat.{ℕ, suc, ◌-◌, ◌/◌, ◌≤◌, ◌<◌}
 use native.Mathlib.Omega.{arith}
-use lib.ListN.{length, get_or}
-use lib.Ieee.{Float, nan, binary64, neg, lt, div}
+use lib.ListN.{length}
+use lib.Ieee.{Float, lt}
 use borrow.Author.Tests.{lt-ltb, le-ltb}
 use Rattle.ieee754.specs.Binary64 as float
 use Rattle.ieee754.specs.Binary64.{times, over, two, two_pi, ten_to_minus12}
-use Rattle.ieee754.specs.Order.{clamped}
-use Rattle.elementary_arctangent.specs.Steps.{atan2_of}
-use Rattle.sums.specs.Complex.{Cx, mul_c}
-use Rattle.sums.specs.Interleaved.{at}
 use Rattle.estimate_correlation.specs.Correlation.{correlation_matrix}
-use Rattle.estimate_esprit.specs.Esprit.{ones, matrix_times, norm, divided_by, power_iteration, lag_one_product, energy, frequency, estimate}
-
--- the first term of a row times a vector
-pub first_term : (r : List Float) (i : ℕ) (b : Cx) {t : Cx} → t ≡ mul_c binary64 (get_or r (20 * i) nan, get_or r (20 * i + 1) nan) b
-    → t ≡ mul_c binary64 (at r (10 * i + 0)) b
-first_term r i b h = let e : 20 * i ≡ 2 * (10 * i + 0) = omega arith in rw e at h
+use Rattle.estimate_esprit.specs.Esprit.{ones, matrix_times, norm, divided_by, power_iteration, frequency, estimate}
 
 -- ---- power iteration, k steps still to go
 
@@ -44,18 +35,6 @@ no_steps r u = refl
 
 pub power_ends : (r u : List Float) (k : ℕ) → k ≤ 0 → u ≡ power_iteration k r u
 power_ends r u k h = let e : k ≡ 0 = omega arith in rw e (no_steps r u)
-
--- ---- the frequency
-
-module _ (u : List Float) (fs : Float) {d : Float} (ed : d ≡ energy u) where
-  pub no_energy : lt ten_to_minus12 d ≡ false → float.zero ≡ frequency u fs
-  unfolding frequency
-  no_energy h = rw (← ed, h)
-
-  pub frequency_is : lt ten_to_minus12 d ≡ true → {a r : Float} {n : Cx} → n ≡ lag_one_product u → a ≡ atan2_of (div binary64 n.1 d) (div binary64 n.0 d)
-      → r ≡ clamped (over (neg (times a fs)) two_pi) (over (neg fs) two) (over fs two) → r ≡ frequency u fs
-  unfolding frequency
-  frequency_is h en ea er = rw (← ed, h, ← en, ← ea) er
 
 -- ---- the estimate
 

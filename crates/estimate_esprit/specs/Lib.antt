@@ -1,3 +1,2 @@
--- Module 4 of the scope: the frequency estimate.
+-- Module 4 of the scope, its second half.
 pub mod Esprit
-pub mod Code

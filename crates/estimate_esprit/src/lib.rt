@@ -1,5 +1,4 @@
 // Module 4 of the scope, its second half: the frequency of the strongest carrier in interleaved samples.
-// A list of complex numbers stands re, im, re, im, ..: the samples, a vector of ten, and the matrix row by row.
 #![tactic(auto)]
 
 mod phase;

@@ -5,10 +5,8 @@ ghost use Rattle.survey.specs.Survey.{survey_of};
 ghost use Rattle.channel_c_layout.specs.Calls.{opened_c, assigned_c, left_c, blocked_c, released_c, figures_c};
 
 use channel_c_layout::plain_calls::{PlainBlocked, PlainReturned, TwelveFigures};
-use channel_c_layout::plain_channel::{
-    PlainChannel, given_back, to_plain_channel, to_real_channel,
-};
-use channel_model::{Carriers, Settings};
+use channel_c_layout::plain_channel::{PlainChannel, given_back};
+use channel_model::{Carriers, Channel, Settings, number_and_channel};
 
 #[unsafe(no_mangle)]
 pub extern "C" fn gibsumac_survey(raw: &[f32]) -> u64
@@ -17,31 +15,32 @@ pub extern "C" fn gibsumac_survey(raw: &[f32]) -> u64
     survey::survey(raw)
 }
 
+#[tactic(auto, unfolding(channel_c_layout::specs::Calls::opened_c))]
 #[unsafe(no_mangle)]
 pub extern "C" fn gibsumac_open(settings: Settings) -> PlainReturned
     ensures { result ≡ opened_c settings }
 {
-    let r = channel_open::open(settings);
-    let c = to_plain_channel(r.channel);
+    let (refusal, c) = number_and_channel(channel_open::open(settings));
     PlainReturned {
-        refusal: r.refusal,
-        channel: c,
+        refusal,
+        channel: PlainChannel::from(c),
     }
 }
 
+#[tactic(auto, unfolding(channel_c_layout::specs::Calls::assigned_c))]
 #[unsafe(no_mangle)]
 pub extern "C" fn gibsumac_assign(channel: PlainChannel, carriers: Carriers) -> PlainReturned
     ensures { result ≡ assigned_c channel carriers }
 {
-    let real = to_real_channel(channel);
-    let r = channel_control::assign::assign(real, carriers);
-    let c = given_back(r.refusal, channel, r.channel);
+    let real = Channel::from(channel);
+    let (refusal, c) = number_and_channel(channel_control::assign::assign(real, carriers));
     PlainReturned {
-        refusal: r.refusal,
-        channel: c,
+        refusal,
+        channel: given_back(refusal, channel, c),
     }
 }
 
+#[tactic(auto, unfolding(channel_c_layout::specs::Calls::blocked_c, channel_c_layout::specs::Calls::left_c, channel_model::specs::Blocks::outcome))]
 #[unsafe(no_mangle)]
 pub extern "C" fn gibsumac_block(
     channel: PlainChannel,
@@ -53,27 +52,28 @@ pub extern "C" fn gibsumac_block(
     ensures { left_c result first.new second.new windows.new
         ≡ blocked_c channel flag first.old second.old windows.old }
 {
-    let real = to_real_channel(channel);
-    let r = channel_block::block::block(real, flag, first, second, windows);
-    let answer = r.answer;
-    let c = given_back(answer.refusal, channel, r.channel);
-    PlainBlocked { answer, channel: c }
+    let real = Channel::from(channel);
+    let b = channel_block::block::block(real, flag, first, second, windows);
+    PlainBlocked {
+        answer: b.answer,
+        channel: given_back(b.answer.refusal, channel, b.channel),
+    }
 }
 
+#[tactic(auto, unfolding(channel_c_layout::specs::Calls::released_c))]
 #[unsafe(no_mangle)]
 pub extern "C" fn gibsumac_release(channel: PlainChannel) -> PlainChannel
     ensures { result ≡ released_c channel }
 {
-    let real = to_real_channel(channel);
-    let released = channel_control::release::release(real);
-    to_plain_channel(released)
+    let real = Channel::from(channel);
+    PlainChannel::from(channel_control::release::release(real))
 }
 
+#[tactic(auto, unfolding(channel_c_layout::specs::Calls::figures_c))]
 #[unsafe(no_mangle)]
 pub extern "C" fn gibsumac_figures(channel: PlainChannel) -> TwelveFigures
     ensures { result ≡ figures_c channel }
 {
-    let real = to_real_channel(channel);
-    let values = channel_control::figures::figures(real);
+    let values = channel_control::figures::figures(Channel::from(channel));
     TwelveFigures { values }
 }

@@ -1,9 +1,9 @@
 -- Truncation, by the tests of `ieee754::integral::to_usize`. Assumes nothing.
-use Rattle.std.proofs.Common.{◌≡◌, ℕ, ◌+◌, ◌-◌, ◌*◌, ◌/◌, ◌^◌, ◌<◌, ◌≤◌, min, Bool, true, false, not, ◌&&◌, ◌||◌, T, eqb, ltb, ◌⊎◌, pos, sym, refl, ap, ◌∙◌, inl, inr, true≢false, le_of_eq, lt_of_lt_of_le, le_of_lt, mul-pos, le-div_iff_mul-le, arith, eqb→eq, ltb→lt, lt→ltb, nltb→le, T_not}
+use Rattle.std.proofs.Common.{◌≡◌, ℕ, ◌+◌, ◌-◌, ◌*◌, ◌^◌, ◌<◌, min, Bool, true, false, not, ◌&&◌, ◌||◌, T, eqb, ltb, ◌⊎◌, pos, sym, refl, ap, ◌∙◌, inl, inr, true≢false, le_of_eq, lt_of_lt_of_le, mul-pos, arith, eqb→eq, lt→ltb, nltb→le, T_not}
 use native.Mathlib.Nat.{div-eq_of_lt}
 use lib.Arith.{lt_of_le-ne}
 use lib.Ieee.{Float, nan, inf, fin, binary64, up, down, lt, le, eq, of_bits, to_unsigned}
-use lib.Ieee.Fits.{down_pos, and_l, and_r, eq→eqb}
+use lib.Ieee.Fits.{down_pos, and_r, eq→eqb}
 use Rattle.ieee754.proofs.Fields.{yes}
 
 abbrev big : Float
@@ -11,10 +11,6 @@ big = fin false 1 (pos 64)
 
 abbrev one : Float
 one = fin false 1 (pos 0)
-
-pub big_is : of_bits binary64 0x43f0_0000_0000_0000 ≡ big
-unfolding of_bits
-big_is = refl
 
 pub one_is : of_bits binary64 0x3ff0_0000_0000_0000 ≡ one
 unfolding of_bits
@@ -29,9 +25,6 @@ nor true q h = absurd (true≢false h)
 nor false true h = absurd (true≢false h)
 nor false false h = (tt, tt)
 
-le_from : (a b : ℕ) (r : Bool) → T (ltb a b || (eqb a b && r)) → a ≤ b
-le_from a b r h = elim (or_cases (ltb a b) (eqb a b && r) h) [ inl u ↦ le_of_lt (ltb→lt a b u) | inr u ↦ le_of_eq (eqb→eq a b (and_l (eqb a b) r u)) ]
-
 lt_from : (a b : ℕ) → ltb a b || (eqb a b && true) ≡ false → b < a
 lt_from a b h =
     let z = nor (ltb a b) (eqb a b && true) h in
@@ -41,28 +34,11 @@ lt_from a b h =
     both true t = tt
     both false t = t
 
-capped : (w c : ℕ) → c < w → c ≡ min w c
-capped w c h = omega arith
-
-large : (d n : ℕ) → 1 * 2 ^ 64 * d ≤ n * 1 → 0 < d → 2 ^ 64 - 1 < n / d
-large d n h D = (le-div_iff_mul-le D).1 (shape d n h)
-  where
-    shape : (x y : ℕ) → 1 * 2 ^ 64 * x ≤ y * 1 → 2 ^ 64 * x ≤ y
-    shape x y h = omega arith
-
 no_size : (d c : ℕ) → 0 < d → 0 < c → c * d ≡ 0 → ⊥
 no_size d c D C e = native.Mathlib.Nat.lt_irrefl 0 (lt_of_lt_of_le (mul-pos C D) (le_of_eq e))
 
 opposite : (a b : ℕ) → T (eqb a b && (false || eqb a 0)) → a ≡ 0
 opposite a b h = eqb→eq a 0 (and_r (eqb a b) (eqb a 0) h)
-
-pub at_big : (x : Float) → le big x ≡ true → 2 ^ 64 - 1 ≡ to_unsigned 64 x
-unfolding le lt eq to_unsigned
-at_big nan h = absurd (true≢false (sym h))
-at_big (inf true) h = absurd (true≢false (sym h))
-at_big (inf false) h = refl
-at_big (fin true m e) h = absurd (no_size (down e) (1 * 2 ^ 64) (down_pos e) (lib.Dec.lit< tt) (opposite (1 * 2 ^ 64 * down e) (m * up e * 1) (yes h)))
-at_big (fin false m e) h = capped (m * up e / down e) (2 ^ 64 - 1) (large (down e) (m * up e) (le_from (1 * 2 ^ 64 * down e) (m * up e * 1) true (yes h)) (down_pos e))
 
 pub asked : (x : Float) → le one x ≡ true → le big x ≡ false → T (lt (fin true 1 (pos 0)) x) × T (lt x big)
 unfolding le lt eq

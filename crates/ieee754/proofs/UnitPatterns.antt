@@ -1,10 +1,11 @@
 -- A finite f64's pattern in units of the smallest one: so many digits and so many places, and the pattern that has them. Assumes nothing.
-use Rattle.std.proofs.Common.{◌≡◌, ℕ, ◌+◌, ◌-◌, ◌*◌, ◌/◌, ◌%◌, ◌^◌, ◌<◌, ◌≤◌, Bool, true, false, T, not, ltb, refl, sym, ap, ◌∙◌, subst, le_trans, le_of_eq, lt_of_lt_of_le, lt_of_le_of_lt, mul-one, mul_assoc, mod-eq_of_lt, arith, lit≤, pow_mono, pow-add, ltb→lt, nltb→le}
+use Rattle.std.proofs.Common.{◌≡◌, ℕ, ◌+◌, ◌-◌, ◌*◌, ◌/◌, ◌%◌, ◌^◌, ◌<◌, ◌≤◌, Bool, inl, inr, refl, sym, ap, ◌∙◌, subst, le_trans, le_of_eq, lt_of_lt_of_le, lt_of_le_of_lt, mul-one, mul_assoc, mod-eq_of_lt, arith, lit≤, pow_mono, pow-add}
 use Rattle.std.proofs.lemmas.Bool.{lt-ltb, le-ltb}
 use native.Mathlib.Nat.{lt_of_mul-lt-mul_right}
 use lib.Count.{count_leading_zeros}
 use lib.Ieee.{binary64, of_bits}
 use lib.Ieee.Exact.{HasValue}
+use Rattle.ieee754_rounding.proofs.Comparison.{lt_or_le}
 use Rattle.ieee754.specs.Code.Units.{digits, places}
 use Rattle.ieee754.proofs.Fields.{signed, infinity, value_low, value_normal}
 use Rattle.ieee754.proofs.LeadingZeros.{up_lo, up_hi}
@@ -27,11 +28,7 @@ places_high a h = rw (le-ltb a (2 ^ 52) h)
 
 -- either way, by the size of the pattern
 by_size : {A : Type 0} (a : ℕ) → (a < 2 ^ 52 → A) → (2 ^ 52 ≤ a → A) → A
-by_size {A} a f g = go (ltb a (2 ^ 52)) (ltb→lt a (2 ^ 52)) (nltb→le a (2 ^ 52))
-  where
-    go : (b : Bool) → (T b → a < 2 ^ 52) → (T (not b) → 2 ^ 52 ≤ a) → A
-    go true p q = f (p tt)
-    go false p q = g (q tt)
+by_size a f g = elim (lt_or_le a (2 ^ 52)) [ inl h ↦ f h | inr h ↦ g h ]
 
 pub digits_short : (a : ℕ) → digits a < 2 ^ 53
 digits_short a = by_size a (λ h. rw (digits_low a h) (omega arith)) (λ h. rw (digits_high a h) (omega arith))

@@ -51,6 +51,7 @@ fn narrow_bits(a: u64) -> u64
 
 // x as an f32: the nearest one, of two as near the even one, an infinity from halfway past the largest on, and a NaN for a NaN. No subnormal
 // significand is normalised here: every subnormal f64 rounds to zero.
+// Not the library's `nearest_f64_to_f32_with_nan`, which takes half as long again.
 pub fn f64_to_f32(x: f64) -> f32
     ensures { result ≡ convert binary32 x }
 {
@@ -79,6 +80,7 @@ fn widen_bits(a: u64) -> u64
 }
 
 // x as an f64, which holds every f32; a NaN passes. What has its leading one already is the hardware's to convert.
+// Not the library's conversion, which is the hardware's for all: the scope has a subnormal significand shifted up by its leading zeros.
 pub fn f32_to_f64(x: f32) -> f64
     ensures { result ≡ x }
 {

@@ -9,13 +9,7 @@ ghost use Rattle.ieee754.specs.Code.WholeAway.{whole_away};
 pub fn to_usize(x: f64) -> usize
     ensures { result ≡ to_unsigned 64 x }
 {
-    if x >= 18446744073709551616.0 {
-        return 18446744073709551615;
-    }
-    if x >= 1.0 {
-        return std::num::truncating_f64_to_u64(x) as usize;
-    }
-    0
+    std::num::saturating_f64_to_usize(x)
 }
 
 // The whole number nearest to the float with the pattern a, which has no sign and is below 2 ^ 52; a half goes up.
@@ -32,6 +26,7 @@ fn whole_away(a: u64) -> u64
 }
 
 // x to the nearest whole number, a half away from zero. From 2 ^ 52 on every f64 is whole.
+// Not the library's `round`, which takes a sixth longer.
 pub fn round(x: f64) -> f64
     ensures { result ≡ rounded_away binary64 x }
 {

@@ -3,6 +3,7 @@ ghost use Rattle.std.specs.Prelude.{◌≡◌};
 ghost use Rattle.ieee754.specs.Order.{maximum, clamped};
 
 // The larger of two; a NaN loses.
+// Not the library's `max`, which may answer either of two zeros.
 pub fn max(x: f64, y: f64) -> f64
     ensures { result ≡ maximum x y }
 {
@@ -16,6 +17,7 @@ pub fn max(x: f64, y: f64) -> f64
 }
 
 // x moved into lo .. hi; a NaN stays.
+// Not the library's `clamp`, which asks that lo be at most hi.
 pub fn clamp(x: f64, lo: f64, hi: f64) -> f64
     ensures { result ≡ clamped x lo hi }
 {

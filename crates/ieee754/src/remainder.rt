@@ -34,12 +34,10 @@ fn rest_of(m: u64, k: u64, n: u64) -> u64
     ensures { result ≡ m * 2 ^ k % n }
 {
     let mut r = m;
-    let mut left = k;
-    while 11 < left {
+    for _ in 0..k / 11 {
         r = (r << 11) % n;
-        left -= 11;
     }
-    (r << left) % n
+    (r << (k % 11)) % n
 }
 
 // The pattern, without its sign, of r * 2 ^ i units: as many of the places as there are become digits.

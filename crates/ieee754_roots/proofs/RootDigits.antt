@@ -1,49 +1,8 @@
--- The arithmetic of the digit loop and of the check of a guess. Assumes nothing.
-use Rattle.std.proofs.Common.{◌≡◌, ℕ, zero, suc, ◌+◌, ◌-◌, ◌*◌, ◌/◌, ◌%◌, ◌^◌, ◌<◌, ◌≤◌, Bool, true, false, ltb, ◌⊎◌, refl, ap, ◌∙◌, subst, inl, inr, lt_of_lt_of_le, mul-le-mul, mul-le-mul_left, arith, lit≤, pow_mono, shr-shr, le-ltb, lt-ltb}
-use lib.Pow.{shr_le}
-use lib.Bits.{bit_and, and_mask}
+-- The nearest root by the whole one, and the arithmetic of the check of a guess. Assumes nothing.
+use Rattle.std.proofs.Common.{◌≡◌, ℕ, zero, suc, ◌+◌, ◌*◌, ◌/◌, ◌%◌, ◌^◌, ◌<◌, ◌≤◌, Bool, true, false, ltb, ◌⊎◌, refl, ap, subst, inl, inr, mul-le-mul, arith, lit≤, le-ltb, lt-ltb}
 use mir.Val.{bool_byte}
 use Rattle.ieee754_rounding.proofs.Comparison.{lt_or_le}
 use Rattle.ieee754.specs.Code.WholeRoot.{NearestRoot}
-use Rattle.ieee754.proofs.IntegerRoot.{sq_lt_back}
-
--- two more digits of m
-pub more_digits : (m s d : ℕ) → 2 ≤ s → d ≡ bit_and (m / 2 ^ (s - 2)) 3 → 4 * (m / 2 ^ s) + d ≡ m / 2 ^ (s - 2)
-more_digits m s d h e =
-    let a : m / 2 ^ (s - 2) / 4 ≡ m / 2 ^ s = shr-shr m (s - 2) 2 ∙ ap (λ (z : ℕ). m / 2 ^ z) (back s h) in
-    let b : bit_and (m / 2 ^ (s - 2)) 3 ≡ m / 2 ^ (s - 2) % 4 = and_mask (m / 2 ^ (s - 2)) 2 in
-    omega arith
-  where
-    back : (k : ℕ) → 2 ≤ k → k - 2 + 2 ≡ k
-    back k h = omega arith
-
-pub digit_small : (n : ℕ) → bit_and n 3 < 4
-digit_small n = let b : bit_and n 3 ≡ n % 4 = and_mask n 2 in omega arith
-
-pub q_small : (q rest m s : ℕ) → q * q + rest ≡ m / 2 ^ s → m < 2 ^ 54 → q < 2 ^ 54
-q_small q rest m s e h =
-    lt_of_lt_of_le (sq_lt_back q (2 ^ 27) (under (q * q) rest (m / 2 ^ s) m e (shr_le m s) h)) (lit≤ tt)
-  where
-    under : (x r y m : ℕ) → x + r ≡ y → y ≤ m → m < 2 ^ 54 → x < 2 ^ 27 * 2 ^ 27
-    under x r y m e a h = omega arith
-
--- two zeros more
-pub more_zeros : (m j : ℕ) → m * (2 ^ (j + 1) * 2 ^ (j + 1)) ≡ 4 * (m * (2 ^ j * 2 ^ j)) + 0
-more_zeros m j =
-    let a : 2 ^ (j + 1) ≡ 2 ^ j * 2 = lib.Pow.pow-add 2 j 1 in
-    ap (λ (z : ℕ). m * (z * z)) a ∙ go m (2 ^ j)
-  where
-    go : (m w : ℕ) → m * (w * 2 * (w * 2)) ≡ 4 * (m * (w * w)) + 0
-    go m w = omega arith
-
-pub q_small_2 : (q rest m j : ℕ) → q * q + rest ≡ m * (2 ^ j * 2 ^ j) → j ≤ 27 → m < 2 ^ 54 → q < 2 ^ 54
-q_small_2 q rest m j e h k =
-    let p : 2 ^ j * 2 ^ j ≤ 2 ^ 27 * 2 ^ 27 = mul-le-mul (pow_mono h) (pow_mono h) in
-    let a : m * (2 ^ j * 2 ^ j) ≤ m * 2 ^ 54 = mul-le-mul_left m p in
-    sq_lt_back q (2 ^ 54) (under (q * q) rest (m * (2 ^ j * 2 ^ j)) m e a k)
-  where
-    under : (x r y m : ℕ) → x + r ≡ y → y ≤ m * 2 ^ 54 → m < 2 ^ 54 → x < 2 ^ 54 * 2 ^ 54
-    under x r y m e a h = omega arith
 
 -- from the whole part q of the root of 4 * M to the nearest root of M
 half_even : (M h rest : ℕ) → 0 < M → 2 * h * (2 * h) + rest ≡ 4 * M → rest ≤ 2 * (2 * h) → NearestRoot M h
@@ -87,9 +46,6 @@ excess_is m a b q H Y X eq eh ey ex =
 
 pub half_square_lem : (a : ℕ) → a ≤ 268435456 → a * a ≤ 72057594037927936
 half_square_lem a h = mul-le-mul h h
-
-pub cross_fits : (a b : ℕ) → a ≤ 268435456 → b ≤ 67108864 → a * b ≤ 18014398509481984
-cross_fits a b h k = mul-le-mul h k
 
 byte_small : (b : Bool) → bool_byte b ≤ 1
 byte_small false = lit≤ tt

@@ -7,9 +7,9 @@ ghost use Rattle.ieee754.specs.SquareRoot.{sqrt};
 ghost use Rattle.ieee754.specs.Code.Quotients.{nearest_quotient};
 ghost use Rattle.ieee754.specs.Code.WholeRoot.{NearestRoot};
 
-use crate::goldschmidt::{Estimate, refined};
+use crate::goldschmidt::Estimate;
 
-// A guess at the 24 digits of the root of x, which has the pattern bits: the start of `square_root::guess`, three steps, the last without
+// A guess at the 24 digits of the root of x, which has the pattern bits: three steps, the last without
 // the inverse, and the leading digits rounded. They are counted by the root's exponent, which is known from x, and not by the guess's:
 // so a root just below a power of two rounds up to it, 2 ^ 24, and a guess that falls short of a power of two has the digits 2 ^ 23.
 // Half a unit less and then one more is the rounding, and never nought. Nothing is claimed of the guess but its range.
@@ -17,11 +17,7 @@ fn guessed_digits(x: f64, bits: u64) -> u64
     requires { bits ≤ 0x7ff0_0000_0000_0000 }
     ensures { (0 < result) × (result ≤ 2 ^ 24) }
 {
-    let y: f64 = f64::from_bits(0x5fe6_eb50_c7b5_37a9 - bits / 2);
-    let e = refined(refined(Estimate {
-        root: x * y,
-        half: 0.5 * y,
-    }));
+    let e = Estimate::start(x, bits).refined().refined();
     let t = e.root * (1.5 - e.root * e.half);
     if t >= 0.0 {
         let b: u64 = f64::to_bits(t);

@@ -4,11 +4,12 @@
 
 ghost use Rattle.std.specs.Prelude.{◌≡◌, List, ℕ, Option};
 ghost use Rattle.pass_transfer.specs.Account.{Accounted, Carried, Completed};
-ghost use Rattle.pass_transfer.specs.Code.Standing.{onward, Sizes, Countable, Counted, Placed, Stands, Moves};
+ghost use Rattle.pass_transfer.specs.Code.Standing.{onward, Countable, Counted, Placed, Stands, Moves};
 ghost use Rattle.pass_turn.specs.Code.Turning.{zeros};
 
 use pass_setup::pass::Pass;
-use pass_transfer::{Account, Next, State};
+use pass_transfer::{Account, LIST, Next, State, TEXT, step};
+use pass_turn::{begin, end, turn};
 use std::io::{Read, Write};
 use std::time::Clock;
 
@@ -29,44 +30,42 @@ fn go_on<R: Read, W: Write, S: Clock + Eprint>(
     rt: &S,
     p: Pass,
     s: State,
-    buf: &mut [u8],
+    buf: &mut [u8; TEXT],
     windows: &mut [f64],
-    out: &mut [u8],
+    out: &mut [u8; LIST],
     input: &mut R,
     output: &mut W,
 ) -> Went
-    requires { Placed s buf.old out.old × Sizes buf.old out.old × Countable s }
+    requires { Placed s buf.old out.old × Countable s }
     ensures stands { Stands s (onward p windows.old) buf.old out.old → Stands result.state (onward result.pass windows.new) buf.new out.new }
     ensures moves { (had held : Option (List ℕ)) → Moves s (onward p windows.old) buf.old out.old had (R.remaining input.old) held (W.contents output.old)
         → Moves result.state (onward result.pass windows.new) buf.new out.new had (R.remaining input.new) held (W.contents output.new) }
     ensures counted { Counted s result.state }
 {
-    if !pass_transfer::is_due(s) {
-        let state = pass_transfer::step(rt, s, buf, out, input, output);
-        return Went { pass: p, state };
+    if !s.is_due() {
+        return Went {
+            pass: p,
+            state: step(rt, s, buf, out, input, output),
+        };
     }
-    let left = s.left;
-    let due = s.next;
-    if let Next::Close = due {
-        let n = pass_turn::end(p, &buf[..left], out);
-        let next = Next::Ended;
-        let state = pass_transfer::closing(s, n, next, 0);
-        return Went { pass: p, state };
+    if let Next::Close = s.next {
+        let n = end(p, &buf[..s.left], out);
+        return Went {
+            pass: p,
+            state: s.closing(n, Next::Ended, 0),
+        };
     }
-    let f = pass_turn::turn(p, left, buf, windows, out);
-    let pass = f.pass;
-    let next = f.next;
-    let state = State {
-        left: f.left,
-        from: 0,
-        at: f.at,
-        next,
-        error: s.error,
-        stuck: s.stuck,
-        read: s.read,
-        written: s.written,
-    };
-    Went { pass, state }
+    let f = turn(p, s.left, buf, windows, out);
+    Went {
+        pass: f.pass,
+        state: State {
+            left: f.left,
+            from: 0,
+            at: f.at,
+            next: f.next,
+            ..s
+        },
+    }
 }
 
 // Turn after turn.
@@ -74,13 +73,13 @@ fn pump<R: Read, W: Write, S: Clock + Eprint>(
     rt: &S,
     p: Pass,
     first: State,
-    buf: &mut [u8],
+    buf: &mut [u8; TEXT],
     windows: &mut [f64],
-    out: &mut [u8],
+    out: &mut [u8; LIST],
     input: &mut R,
     output: &mut W,
 ) -> Account
-    requires { Stands first (onward p windows.old) buf.old out.old × Sizes buf.old out.old × (first.read ≡ 0) × (first.written ≡ 0) }
+    requires { Stands first (onward p windows.old) buf.old out.old × (first.read ≡ 0) × (first.written ≡ 0) }
     ensures accounted { Accounted result }
     ensures carried { (had held : Option (List ℕ)) → Moves first (onward p windows.old) buf.old out.old had (R.remaining input.old) held (W.contents output.old)
         → Carried result had (R.remaining input.new) held (W.contents output.new) }
@@ -88,47 +87,43 @@ fn pump<R: Read, W: Write, S: Clock + Eprint>(
 {
     let mut pass = p;
     let mut s = first;
-    let mut turns = TURNS;
-    while turns > 0 {
-        if pass_transfer::is_over(s) {
-            return pass_transfer::account_of(s, turns);
+    for turn in 0..TURNS {
+        if s.is_over() {
+            return s.account(TURNS - turn);
         }
         let w = go_on(rt, pass, s, buf, windows, out, input, output);
         pass = w.pass;
         s = w.state;
-        turns -= 1;
     }
-    pass_transfer::account_of(s, 0)
+    s.account(0)
 }
 
 // The list's line of names waits, and nothing is read yet.
 fn start<R: Read, W: Write, S: Clock + Eprint>(
     rt: &S,
-    buf: &mut [u8],
+    buf: &mut [u8; TEXT],
     windows: &mut [f64],
-    out: &mut [u8],
+    out: &mut [u8; LIST],
     input: &mut R,
     output: &mut W,
 ) -> Account
-    requires { Sizes buf.old out.old × (windows.old ≡ zeros) }
+    requires { windows.old ≡ zeros }
     ensures accounted { Accounted result }
     ensures carried { Carried result (R.remaining input.old) (R.remaining input.new) (W.contents output.old) (W.contents output.new) }
     ensures completed { Completed result }
 {
-    let f = pass_turn::begin(out);
-    let pass = f.pass;
-    let next = Next::Read;
+    let f = begin(out);
     let first = State {
         left: 0,
         from: 0,
         at: f.at,
-        next,
+        next: Next::Read,
         error: 0,
         stuck: false,
         read: 0,
         written: 0,
     };
-    pump(rt, pass, first, buf, windows, out, input, output)
+    pump(rt, f.pass, first, buf, windows, out, input, output)
 }
 
 // Reads a pass text to its end, and writes its list. The runtime is asked for the pauses, and for a line on standard error where a read or a write fails.
@@ -137,8 +132,8 @@ pub fn list<R: Read, W: Write, S: Clock + Eprint>(rt: &S, input: &mut R, output:
     ensures carried { Carried result (R.remaining input.old) (R.remaining input.new) (W.contents output.old) (W.contents output.new) }
     ensures completed { Completed result }
 {
-    let mut buf = [0u8; 262144];
-    let mut windows = [0.0f64; 8192];
-    let mut out = [0u8; 65536];
+    let mut buf = [0; TEXT];
+    let mut windows = [0.0; 8192];
+    let mut out = [0; LIST];
     start(rt, &mut buf, &mut windows, &mut out, input, output)
 }

@@ -2,8 +2,7 @@
 use mathlib.Core.Path.{◌≡◌, refl, ap, sym, ◌∙◌}
 use mathlib.Core.Bool.{Bool, true, false, cond, ◌&&◌, and-false}
 use mathlib.Core.List.{List, [], ◌∷◌, ◌++◌, append_assoc, append-nil, map, map-append}
-use mathlib.Core.Option
-use mathlib.Core.Option.{Option, none, some, bind}
+use Rattle.std.specs.Prelude.{Option, Some, None, option_map, option_and_then}
 use Prim.Native.Nat.{ℕ, zero, suc, ◌+◌, ◌-◌, ◌*◌, ◌/◌, ◌%◌, ◌≤◌, ◌<◌}
 use native.Mathlib.Numerals.{add-one}
 use native.Mathlib.Omega.{arith}
@@ -15,7 +14,7 @@ use borrow.Author.Tests.{ne_eqb, eqb-true, leb-true, ltb-true, ltb-false}
 use Rattle.sequences.specs.Folds.{every}
 use Rattle.pass_reader.specs.Bytes.{bytes, same, fields, space}
 use Rattle.pass_reader.specs.Numbers.{digit_value, is_digit, number_of, decimal_of}
-use Rattle.pass_reader.specs.Lines.{bits_of, whole_pairs, samples_of, two_fields, outside}
+use Rattle.pass_reader.specs.Lines.{bits_of, whole_pairs, samples_of, two_fields}
 use Rattle.pass_reader.specs.Code.Places.{place}
 use Rattle.pass_reader.specs.Code.Answers.{read_into}
 use Rattle.pass_reader.proofs.Tests.{and_left, and_right}
@@ -56,13 +55,17 @@ module _ (t : List ℕ) (i : ℕ) where
       let b : 8 * (i + 1) ≡ 8 * i + 8 = omega arith in
       ap (every (is_digit 16)) (sym (take-append-drop 8 (drop (8 * i) t))) ∙ every_append (is_digit 16) (take 8 (drop (8 * i) t)) (drop 8 (drop (8 * i) t)) ∙ rw (b, drop-drop 8 (8 * i) t)
 
-  pub group_stops : none ≡ number_of 16 (take 8 (drop (8 * i) t)) → every (is_digit 16) (drop (8 * i) t) ≡ false
+  -- `&t[8 * i..8 * i + 8]`
+  pub group_of : number_of 16 (take (8 * i + 8 - 8 * i) (drop (8 * i) t)) ≡ number_of 16 (take 8 (drop (8 * i) t))
+  group_of = let e : 8 * i + 8 - 8 * i ≡ 8 = omega arith in rw e
+
+  pub group_stops : None ≡ number_of 16 (take 8 (drop (8 * i) t)) → every (is_digit 16) (drop (8 * i) t) ≡ false
   group_stops e = split ∙ rw (no_number 16 _ e)
 
-  pub group_goes_on : (v : ℕ) → some v ≡ number_of 16 (take 8 (drop (8 * i) t)) → every (is_digit 16) (drop (8 * (i + 1)) t) ≡ every (is_digit 16) (drop (8 * i) t)
+  pub group_goes_on : (v : ℕ) → Some v ≡ number_of 16 (take 8 (drop (8 * i) t)) → every (is_digit 16) (drop (8 * (i + 1)) t) ≡ every (is_digit 16) (drop (8 * i) t)
   group_goes_on v e = sym (split ∙ rw (number_digits 16 _ v e).0)
 
-  pub bits_more : (n v : ℕ) (bits : List ℕ) → i < n → i < length bits → some v ≡ number_of 16 (take 8 (drop (8 * i) t))
+  pub bits_more : (n v : ℕ) (bits : List ℕ) → i < n → i < length bits → Some v ≡ number_of 16 (take 8 (drop (8 * i) t))
       → bits_of n t ≡ take i bits ++ bits_of (n - i) (drop (8 * i) t)
       → bits_of n t ≡ take (i + 1) (set bits i v) ++ bits_of (n - (i + 1)) (drop (8 * (i + 1)) t)
   unfolding bits_of
@@ -100,27 +103,27 @@ dash = bytes "-"
 
 -- a flag and samples, if both are in the form
 abbrev pub both : Option ℕ → Option (List Float) → Option (ℕ × List Float)
-both o s = bind o (λ flag. Option.map (λ l. (flag, l)) s)
+both o s = option_and_then (λ flag. option_map (λ l. (flag, l)) s) o
 
 -- what samples say
 module _ (flag : ℕ) (t : List ℕ) (old : List Float) where
-  pub dash_said : same t dash ≡ true → (record { refusal = 0; flag = flag; count = 0 }, old) ≡ read_into (Option.map (λ l. (flag, l)) (samples_of t)) old
+  pub dash_said : same t dash ≡ true → (Some (flag, 0), old) ≡ read_into (option_map (λ l. (flag, l)) (samples_of t)) old
   unfolding read_into samples_of
   dash_said e = rw e
 
-  pub unpaired_said : same t dash ≡ false → whole_pairs t ≡ false → (record { refusal = outside; flag = 0; count = 0 }, old) ≡ read_into (Option.map (λ l. (flag, l)) (samples_of t)) old
+  pub unpaired_said : same t dash ≡ false → whole_pairs t ≡ false → (None, old) ≡ read_into (option_map (λ l. (flag, l)) (samples_of t)) old
   unfolding read_into samples_of
   unpaired_said e w = rw (e, w)
 
   pub undigit_said : same t dash ≡ false → whole_pairs t ≡ true → every (is_digit 16) t ≡ false
-      → (record { refusal = outside; flag = 0; count = 0 }, old) ≡ read_into (Option.map (λ l. (flag, l)) (samples_of t)) old
+      → (None, old) ≡ read_into (option_map (λ l. (flag, l)) (samples_of t)) old
   unfolding read_into samples_of
   undigit_said e w d = rw (e, w, d)
 
   pub samples_said : (bits : List ℕ) {new : List Float} → same t dash ≡ false → whole_pairs t ≡ true → every (is_digit 16) t ≡ true
-      → take (length t / 8) bits ≡ bits_of (length t / 8) t
-      → new ≡ map (of_bits binary32) (take (length t / 8) bits) ++ drop (length (take (length t / 8) bits)) old
-      → (record { refusal = 0; flag = flag; count = length t / 8 }, new) ≡ read_into (Option.map (λ l. (flag, l)) (samples_of t)) old
+      → bits ≡ bits_of (length t / 8) t
+      → new ≡ map (of_bits binary32) bits ++ drop (length bits) old
+      → (Some (flag, length bits), new) ≡ read_into (option_map (λ l. (flag, l)) (samples_of t)) old
   unfolding read_into samples_of
   samples_said bits {new} e w d b n =
       let l : length (map (of_bits binary32) (bits_of (length t / 8) t)) ≡ length t / 8 = length-map (bits_of (length t / 8) t) (of_bits binary32) ∙ length_bits (length t / 8) t in
@@ -141,18 +144,17 @@ spaced_digits (c ∷ r) h = go (eqb c space) refl h (λ l. spaced_digits r l)
     go true e h more = let z : c ≡ 32 = eqb-true _ _ e in rw z
     go false e h more = rw (more (omega arith)) (and-false (is_digit 16 c))
 
-spaced_none : (t : List ℕ) → place space t < length t → samples_of t ≡ none
+spaced_none : (t : List ℕ) → place space t < length t → samples_of t ≡ None
 unfolding samples_of
 spaced_none t h = go (same t dash) refl
   where
-    go : (b : Bool) → same t dash ≡ b → cond b (some []) (cond (whole_pairs t && every (is_digit 16) t) (some (map (of_bits binary32) (bits_of (length t / 8) t))) none) ≡ none
+    go : (b : Bool) → same t dash ≡ b → cond b (Some []) (cond (whole_pairs t && every (is_digit 16) t) (Some (map (of_bits binary32) (bits_of (length t / 8) t))) None) ≡ None
     go true e = absurd (dash_plain (rw (same_eq t dash e) at h))
     go false e = rw (spaced_digits t h, and-false)
 
-pub both_none : (o : Option ℕ) → none ≡ both o none
-unfolding bind
-both_none none = refl
-both_none (some n) = refl
+pub both_none : (o : Option ℕ) → None ≡ both o None
+both_none None = refl
+both_none (Some n) = refl
 
 -- what two fields say, by the place of the first space
 module _ (s : List ℕ) (h : place space s < length s) where
@@ -171,21 +173,20 @@ module _ (s : List ℕ) (h : place space s < length s) where
   two_fields_lem = rw (fields_more s h, add-one) (second (drop (suc (place space s)) s) (take (place space s) s))
 
 -- one field alone
-pub one_field : (s : List ℕ) → place space s ≡ length s → two_fields (fields s) ≡ none
+pub one_field : (s : List ℕ) → place space s ≡ length s → two_fields (fields s) ≡ None
 unfolding two_fields
 one_field s e = rw (fields_last s e)
 
 -- what a line's two fields say, by the place of the first space
 module _ (s : List ℕ) (r : ℕ) (old : List Float) (e : r ≡ place space s) where
-  pub one_field_said : r ≡ length s → (record { refusal = outside; flag = 0; count = 0 }, old) ≡ read_into (two_fields (fields s)) old
+  pub one_field_said : r ≡ length s → (None, old) ≡ read_into (two_fields (fields s)) old
   unfolding read_into
   one_field_said h = rw (one_field s (sym e ∙ h))
 
-  pub no_flag_said : r < length s → none ≡ decimal_of (take r s) → (record { refusal = outside; flag = 0; count = 0 }, old) ≡ read_into (two_fields (fields s)) old
-  unfolding read_into bind
+  pub no_flag_said : r < length s → None ≡ decimal_of (take r s) → (None, old) ≡ read_into (two_fields (fields s)) old
+  unfolding read_into
   no_flag_said h d = rw (two_fields_lem s (omega arith), ← e, ← d)
 
-  pub two_fields_said : (flag : ℕ) → r < length s → some flag ≡ decimal_of (take r s)
-      → read_into (Option.map (λ l. (flag, l)) (samples_of (take (length s - (r + 1)) (drop (r + 1) s)))) old ≡ read_into (two_fields (fields s)) old
-  unfolding bind
+  pub two_fields_said : (flag : ℕ) → r < length s → Some flag ≡ decimal_of (take r s)
+      → read_into (option_map (λ l. (flag, l)) (samples_of (take (length s - (r + 1)) (drop (r + 1) s)))) old ≡ read_into (two_fields (fields s)) old
   two_fields_said flag h d = rw (two_fields_lem s (omega arith), ← e, ← d, tail_is)

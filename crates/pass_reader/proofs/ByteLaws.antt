@@ -1,15 +1,19 @@
 -- Laws of lines and fields: sameness, the search for a byte, and the fields that it finds.
-use mathlib.Core.Path.{◌≡◌, refl, sym, ◌∙◌}
-use mathlib.Core.Bool.{Bool, true, false, cond}
+use mathlib.Core.Path.{◌≡◌, refl, ap, sym, ◌∙◌}
+use mathlib.Core.Bool.{Bool, true, false, cond, and-true}
 use mathlib.Core.List.{List, [], ◌∷◌}
 use Prim.Native.Nat.{ℕ, suc, ◌+◌, ◌-◌, ◌≤◌, ◌<◌}
-use native.Mathlib.Numerals.{add-one}
 use native.Mathlib.Omega.{arith}
 use lib.Dec.{eqb, ltb}
-use lib.ListN.{length, get_or, take, drop, length-drop, drop_of_length-le}
+use lib.ListN.{length, take, drop, length-drop, drop_of_length-le}
 use lib.Seq.{drop-cons, drop-drop, length-take-le, take_all}
-use borrow.Author.Tests.{eq-eqb, ne_eqb, eqb-true, lt-ltb, le-ltb, ltb-true, ltb-false}
-use Rattle.pass_reader.specs.Bytes.{same, whole_line, onto, fields, space}
+use borrow.Author.Tests.{eq-eqb, eqb-true, ltb-true, ltb-false}
+use Rattle.pass_reader.specs.Bytes.{newline, same, whole_line, onto, fields, line_fields, space}
+use Rattle.std.specs.List.{position, position_or_len}
+use denote.Ref.{Bor}
+use Rattle.std.specs.Prelude.{Option, Some, None, MatchOption, unwrap_or}
+use Rattle.std.specs.Str.{bytes_eq}
+use Rattle.std.proofs.lemmas.List.Recursion.{is_position_or_len}
 use Rattle.pass_reader.specs.Code.Places.{place}
 use Rattle.pass_reader.proofs.Tests.{and_left, and_right}
 
@@ -29,34 +33,32 @@ unfolding same
 same_refl [] = refl
 same_refl (x ∷ a) = rw (eq-eqb x x refl) (same_refl a)
 
-pub same_is : (r : Bool) (a b : List ℕ) → (r ≡ true → a ≡ b) × (a ≡ b → r ≡ true) → r ≡ same a b
-same_is true a b h = sym (rw (h.0 refl) (same_refl b))
-same_is false a b h = go (same a b) refl
-  where
-    go : (t : Bool) → same a b ≡ t → false ≡ t
-    go true e = h.1 (same_eq a b e)
-    go false e = refl
+bytes_same : (a b : List ℕ) → bytes_eq a b ≡ same a b
+unfolding same
+bytes_same [] [] = refl
+bytes_same [] (y ∷ b) = refl
+bytes_same (x ∷ a) [] = refl
+bytes_same (x ∷ a) (y ∷ b) = rw (bytes_same a b)
+
+pub same_is : (r : Bool) (a b l : List ℕ) → b ≡ l → r ≡ bytes_eq a b → r ≡ same a l
+same_is r a b l n e = e ∙ bytes_same a b ∙ ap (same a) n
 
 -- a line's end
-pub unended_nil : (l : List ℕ) → length l ≡ 0 → false ≡ whole_line l
+ended : (line : List ℕ) → bytes_eq (drop (length line - 1) line) (newline ∷ []) ≡ whole_line line
 unfolding whole_line
-unended_nil [] h = refl
-unended_nil (b ∷ l) h = absurd (omega arith)
+ended [] = refl
+ended (b ∷ l) =
+    let n : suc (length l) - 1 ≡ length l = omega arith in
+    rw (n, drop-cons (b ∷ l) (length l) 0 (omega arith), drop_of_length-le (b ∷ l) {i = suc (length l)} (omega arith)) (and-true _)
 
--- the search for a byte: found, one byte further, at the end
-module _ (b : ℕ) (s : List ℕ) (i : ℕ) where
-  pub place_here : i < length s → get_or s i 0 ≡ b → place b (drop i s) ≡ 0
-  unfolding place
-  place_here h e = rw (drop-cons s i 0 h, eq-eqb _ _ e)
+pub ends : (line end : List ℕ) (r : Option (Bor (List ℕ))) → end ≡ newline ∷ []
+    → MatchOption r (bytes_eq (drop (length line - length end) line) end ≡ false)
+    (λ text. (bytes_eq (drop (length line - length end) line) end ≡ true) × (text.now ≡ take (length line - length end) line) × (length text.now + length end ≡ length line))
+    → MatchOption r (whole_line line ≡ false) (λ text. (whole_line line ≡ true) × (text.now ≡ take (length line - 1) line))
+ends line end None n h = sym (ended line) ∙ (rw n at h)
+ends line end (Some text) n h = let k = rw n at h in (sym (ended line) ∙ k.0, k.1)
 
-  pub place_next : i < length s → (get_or s i 0 ≡ b → ⊥) → place b (drop i s) ≡ suc (place b (drop (i + 1) s))
-  unfolding place
-  place_next h n = rw (add-one, drop-cons s i 0 h, ne_eqb _ _ n)
-
-  pub place_end : length s ≤ i → place b (drop i s) ≡ 0
-  unfolding place
-  place_end h = rw (drop_of_length-le s h)
-
+-- the search for a byte
 pub place_within : (b : ℕ) (s : List ℕ) → place b s ≤ length s
 unfolding place
 place_within b [] = omega arith
@@ -65,6 +67,18 @@ place_within b (c ∷ r) = go (eqb c b) (place_within b r)
     go : (t : Bool) → place b r ≤ length r → cond t 0 (suc (place b r)) ≤ suc (length r)
     go true h = omega arith
     go false h = omega arith
+
+pub place_found : (b : ℕ) (s : List ℕ) → unwrap_or (position (λ x. eqb x b) s) (length s) ≡ place b s
+unfolding place
+place_found b s =
+    let first : place b s ≡ position_or_len (λ x. eqb x b) s = is_position_or_len (place b) (λ x. eqb x b) refl (λ x xs. let one : suc (place b xs) ≡ 1 + place b xs = omega arith in rw one) s in
+    let within = place_within b s in
+    go (ltb (position_or_len (λ x. eqb x b) s) (length s)) refl first within
+  where
+    go : (t : Bool) → ltb (position_or_len (λ x. eqb x b) s) (length s) ≡ t → place b s ≡ position_or_len (λ x. eqb x b) s → place b s ≤ length s
+        → unwrap_or (cond t (Some (position_or_len (λ x. eqb x b) s)) None) (length s) ≡ place b s
+    go true e f w = sym f
+    go false e f w = let l : length s ≤ position_or_len (λ x. eqb x b) s = ltb-false _ _ e in omega arith
 
 -- the fields of a text with no space, and of one with a space
 pub fields_last : (s : List ℕ) → place space s ≡ length s → fields s ≡ s ∷ []
@@ -94,9 +108,6 @@ abbrev pub fields_after : List ℕ → ℕ → List (List ℕ)
 fields_after s end = cond (ltb end (length s)) (fields (drop (end + 1) s)) []
 
 module _ (s : List ℕ) (at end : ℕ) (within : at ≤ length s) (found : end ≡ at + place space (drop at s)) where
-  pub end_within : end ≤ length s
-  end_within = let p = place_within space (drop at s) in let l = length-drop at s in omega arith
-
   pub fields_at : fields (drop at s) ≡ take (end - at) (drop at s) ∷ fields_after s end
   fields_at = go (ltb end (length s)) refl
     where
@@ -113,12 +124,6 @@ module _ (s : List ℕ) (at end : ℕ) (within : at ≤ length s) (found : end �
           let m = place_within space (drop at s) in
           fields_last (drop at s) (omega arith) ∙ rw (take_all (end - at) (drop at s) (omega arith))
 
-  pub after_space : end < length s → fields_after s end ≡ fields (drop (end + 1) s)
-  after_space h = rw (lt-ltb _ _ h)
-
-  pub after_last : length s ≤ end → fields_after s end ≡ []
-  after_last h = rw (le-ltb _ _ h)
-
 -- a text has at least one field
 pub some_field : (s : List ℕ) → fields s ≡ take (place space s) s ∷ fields_after s (place space s)
 some_field s = let z : place space s - 0 ≡ place space s = omega arith in fields_at s 0 (place space s) (omega arith) (omega arith) ∙ rw z
@@ -133,3 +138,8 @@ front_length r l h = sym (length-take-le r l h)
 -- a search in `&s[a..]`
 pub found_from : (b : ℕ) (s : List ℕ) (a r : ℕ) → r ≡ place b (take (length s - a) (drop a s)) → a + r ≡ a + place b (drop a s)
 found_from b s a r e = rw (e, tail_is)
+
+-- the fields of a line that has a newline
+pub text_fields : (line text : List ℕ) → (whole_line line ≡ true) × (text ≡ take (length line - 1) line) → fields text ≡ line_fields line
+unfolding line_fields
+text_fields line text h = rw (h.0, h.1)

@@ -2,7 +2,7 @@
 use mathlib.Core.Path.{◌≡◌, refl, sym, ◌∙◌}
 use mathlib.Core.Bool.{Bool, true, false, cond, ◌&&◌}
 use mathlib.Core.List.{List, [], ◌∷◌}
-use mathlib.Core.Option.{none, some}
+use Rattle.std.specs.Prelude.{Some, None}
 use Prim.Native.Nat.{ℕ, suc, ◌+◌, ◌-◌, ◌*◌, ◌^◌, ◌≤◌, ◌<◌}
 use native.Mathlib.Numerals.{add-one}
 use native.Mathlib.Nat.{pow-suc, pow-le-pow_right, mul-le-mul, mul-le-mul_right, mul_assoc, pow-succ', pow-zero, mul-one, lt_of_lt_of_le, add-mul}
@@ -29,9 +29,9 @@ module _ (b : ℕ) where
   unfolding digit_value
   between_digits h k = rw (le-leb 48 b (omega arith), lt-leb b 57 h, lt-leb 97 b k)
 
-  pub letter_digit : 97 ≤ b → b ≤ 102 → b - 87 ≡ digit_value b
+  pub letter_digit : 97 ≤ b → b ≤ 102 → b - 97 + 10 ≡ digit_value b
   unfolding digit_value
-  letter_digit h k = rw (le-leb 48 b (omega arith), lt-leb b 57 (omega arith), le-leb 97 b h, le-leb b 102 k) (omega arith)
+  letter_digit h k = rw (le-leb 48 b (omega arith), lt-leb b 57 (omega arith), le-leb 97 b h, le-leb b 102 k)
 
   pub above_digits : 102 < b → 16 ≡ digit_value b
   unfolding digit_value
@@ -49,7 +49,7 @@ short x i h l = omega (arith, pow-le-pow_right {n = 16} (omega arith) {i = i} {j
 
 -- the loop: a byte that is no digit, and the end
 module _ (base : ℕ) (s : List ℕ) (i : ℕ) where
-  pub number_stops : i < length s → every (is_digit base) (drop i s) ≡ every (is_digit base) s → base ≤ digit_value (get_or s i 0) → none ≡ number_of base s
+  pub number_stops : i < length s → every (is_digit base) (drop i s) ≡ every (is_digit base) s → base ≤ digit_value (get_or s i 0) → None ≡ number_of base s
   unfolding number_of is_digit
   number_stops h e d =
       let n : is_digit base (get_or s i 0) ≡ false = le-ltb _ _ d in
@@ -57,7 +57,7 @@ module _ (base : ℕ) (s : List ℕ) (i : ℕ) where
       rw z
 
   pub number_ends : (v : ℕ) → length s ≤ i → every (is_digit base) (drop i s) ≡ every (is_digit base) s
-      → fold (digit_behind base) v (drop i s) ≡ fold (digit_behind base) 0 s → some v ≡ number_of base s
+      → fold (digit_behind base) v (drop i s) ≡ fold (digit_behind base) 0 s → Some v ≡ number_of base s
   unfolding number_of
   number_ends v h e w =
       let z : every (is_digit base) s ≡ true = sym e ∙ every_end s i (is_digit base) h in
@@ -70,20 +70,20 @@ module _ (base : ℕ) (s : List ℕ) (i : ℕ) where
 
 -- what a number says of its digits
 module _ (base : ℕ) (s : List ℕ) where
-  pub number_digits : (v : ℕ) → some v ≡ number_of base s → (every (is_digit base) s ≡ true) × (v ≡ fold (digit_behind base) 0 s)
+  pub number_digits : (v : ℕ) → Some v ≡ number_of base s → (every (is_digit base) s ≡ true) × (v ≡ fold (digit_behind base) 0 s)
   unfolding number_of
   number_digits v e = go (every (is_digit base) s) refl e
     where
-      go : (t : Bool) → every (is_digit base) s ≡ t → some v ≡ cond t (some (fold (digit_behind base) 0 s)) none
+      go : (t : Bool) → every (is_digit base) s ≡ t → Some v ≡ cond t (Some (fold (digit_behind base) 0 s)) None
           → (every (is_digit base) s ≡ true) × (v ≡ fold (digit_behind base) 0 s)
       go true a d = (a, cc)
       go false a d = absurd (let z : ◌≡◌ {A = ℕ} 0 1 = cc in omega arith)
 
-  pub no_number : none ≡ number_of base s → every (is_digit base) s ≡ false
+  pub no_number : None ≡ number_of base s → every (is_digit base) s ≡ false
   unfolding number_of
   no_number e = go (every (is_digit base) s) refl e
     where
-      go : (t : Bool) → every (is_digit base) s ≡ t → none ≡ cond t (some (fold (digit_behind base) 0 s)) none → every (is_digit base) s ≡ false
+      go : (t : Bool) → every (is_digit base) s ≡ t → None ≡ cond t (Some (fold (digit_behind base) 0 s)) None → every (is_digit base) s ≡ false
       go true a d = absurd (let z : ◌≡◌ {A = ℕ} 0 1 = cc in omega arith)
       go false a d = a
 
@@ -98,7 +98,7 @@ value_below base (b ∷ r) v e =
     let m : (v * base + digit_value b + 1) * base ^ length r ≤ (v + 1) * base ^ suc (length r) = rw (pow-succ', ← mul_assoc) (mul-le-mul_right (base ^ length r) l) in
     lt_of_lt_of_le (value_below base r (v * base + digit_value b) (and_right (is_digit base b) _ e)) m
 
-pub number_below : (base : ℕ) (s : List ℕ) (v : ℕ) → some v ≡ number_of base s → v < base ^ length s
+pub number_below : (base : ℕ) (s : List ℕ) (v : ℕ) → Some v ≡ number_of base s → v < base ^ length s
 number_below base s v e =
     let d = number_digits base s v e in
     let l : fold (digit_behind base) 0 s < (0 + 1) * base ^ length s = value_below base s 0 d.0 in
@@ -110,7 +110,7 @@ pub shape_short : (s : List ℕ) → decimal_shape s ≡ true → length s ≤ 1
 unfolding decimal_shape
 shape_short s e = leb-true _ _ (and_right (leb 1 (length s)) _ (and_left (leb 1 (length s) && leb (length s) 12) _ e))
 
-pub unshaped : (s : List ℕ) → decimal_shape s ≡ false → none ≡ decimal_of s
+pub unshaped : (s : List ℕ) → decimal_shape s ≡ false → None ≡ decimal_of s
 unfolding decimal_of
 unshaped s e = rw e
 

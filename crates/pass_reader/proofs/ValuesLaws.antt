@@ -1,112 +1,193 @@
 -- Laws of the line of values: its fields one after the other, and what nine numbers say.
+use Rattle.std.specs.Prelude.{Option, Some, None, MatchOption, is_some, option_map, option_and_then, slice_range}
 use mathlib.Core.Path.{◌≡◌, refl, ap, sym, ◌∙◌}
-use mathlib.Core.List.{List, [], ◌∷◌, ◌++◌, append_assoc, append-nil}
-use mathlib.Core.Option.{Option, none, some, map, bind}
-use Prim.Native.Nat.{ℕ, suc, ◌+◌, ◌-◌, ◌≤◌, ◌<◌}
+use mathlib.Core.Bool.{Bool, true, false, cond, ◌&&◌}
+use mathlib.Core.List.{List, [], ◌∷◌}
+use mathlib.Core.Logic.{◌⊎◌, inl, inr}
+use Prim.Native.Nat.{ℕ, suc, ◌+◌, ◌≤◌, ◌<◌}
 use native.Mathlib.Numerals.{add-one}
 use native.Mathlib.Omega.{arith}
-use lib.ListN.{length, get_or, take, drop, set, length-append, drop_of_length-le}
-use lib.Seq.{drop-cons, take-suc-set, take_all, length-take-le}
-use borrow.Author.Tests.{eq-eqb, ne_eqb, le-leb, lt-leb}
+use denote.Ref.{Bor}
+use lib.Dec.{leb}
+use lib.ListN.{length, take, drop, length-drop}
+use lib.Seq.{drop-drop, take_all}
+use borrow.Author.Tests.{ne_eqb}
 use Rattle.pass_reader.specs.Bytes.{fields, space}
 use Rattle.pass_reader.specs.Numbers.{decimal_of}
 use Rattle.pass_reader.specs.Lines.{decimals, nine_values}
 use Rattle.pass_reader.specs.Code.Places.{place}
-use Rattle.pass_reader.proofs.ByteLaws.{fields_after, fields_at, after_space, after_last, some_field}
-
--- the numbers so far, in front of those that are left
-abbrev pub front : List ℕ → Option (List ℕ) → Option (List ℕ)
-front l none = none
-front l (some m) = some (l ++ m)
-
-pub front_nil : (o : Option (List ℕ)) → o ≡ front [] o
-front_nil none = refl
-front_nil (some l) = refl
+use Rattle.pass_reader.specs.Code.Answers.{fields_of, next_decimal, switch, next_switch}
+use Rattle.pass_reader.proofs.ByteLaws.{fields_last, fields_more, some_field, place_within, tail_is}
 
 -- a number in front of others, if all are there
 abbrev pub ahead : Option ℕ → Option (List ℕ) → Option (List ℕ)
-ahead o p = bind o (λ n. map (λ l. n ∷ l) p)
-
-front_ahead : (l : List ℕ) (n : ℕ) (o : Option (List ℕ)) → front l (map (λ m. n ∷ m) o) ≡ front (l ++ (n ∷ [])) o
-front_ahead l n none = refl
-front_ahead l n (some m) = ap some (sym (append_assoc l (n ∷ []) m))
-
--- one field of a text: no number, a number with more fields after it, and the last number
-module _ (s v : List ℕ) (at end k : ℕ) (within : at ≤ length s) (found : end ≡ at + place space (drop at s))
-    (so_far : decimals (fields s) ≡ front (take k v) (decimals (fields (drop at s)))) where
-  here : decimals (fields s) ≡ front (take k v) (ahead (decimal_of (take (end - at) (drop at s))) (decimals (fields_after s end)))
-  unfolding decimals
-  here = so_far ∙ ap (λ (f : List (List ℕ)). front (take k v) (decimals f)) (fields_at s at end within found)
-
-  pub no_decimal : none ≡ decimal_of (take (end - at) (drop at s)) → decimals (fields s) ≡ none
-  unfolding bind
-  no_decimal e = here ∙ rw (← e)
-
-  pub one_decimal : (x : ℕ) → k < length v → some x ≡ decimal_of (take (end - at) (drop at s))
-      → decimals (fields s) ≡ front (take (k + 1) (set v k x)) (decimals (fields_after s end))
-  unfolding bind
-  one_decimal x h e = here ∙ rw (← e, front_ahead (take k v) x (decimals (fields_after s end)), add-one k, take-suc-set v k x h)
-
-  pub more_decimals : (x : ℕ) → k < length v → some x ≡ decimal_of (take (end - at) (drop at s)) → end < length s
-      → decimals (fields s) ≡ front (take (k + 1) (set v k x)) (decimals (fields (drop (end + 1) s)))
-  more_decimals x h e l = one_decimal x h e ∙ rw (after_space s at end within found l)
-
-  pub last_decimal : (x : ℕ) → k < length v → some x ≡ decimal_of (take (end - at) (drop at s)) → length s ≤ end
-      → decimals (fields s) ≡ some (take (k + 1) (set v k x))
-  unfolding decimals
-  last_decimal x h e l = one_decimal x h e ∙ rw (after_last s at end within found l, append-nil)
+ahead o p = option_and_then (λ n. option_map (λ l. n ∷ l) p) o
 
 -- what numbers say
-pub none_say : {o : Option (List ℕ)} → o ≡ none → none ≡ bind o nine_values
-unfolding bind
+pub none_say : {o : Option (List ℕ)} → o ≡ None → None ≡ option_and_then nine_values o
 none_say e = rw e
 
-pub unequal : (v : List ℕ) → (length v ≡ 9 → ⊥) → none ≡ nine_values v
+pub unequal : (v : List ℕ) → (length v ≡ 9 → ⊥) → None ≡ nine_values v
 unfolding nine_values
 unequal v n = rw (ne_eqb _ _ n)
 
--- fewer than nine
-pub few_say : (v : List ℕ) (n : ℕ) → n < 9 → n ≤ length v → none ≡ nine_values (take n v)
-few_say v n h l = unequal (take n v) (λ e. let z = length-take-le n v l in omega arith)
+-- the first field, and what `rest.get(1..)` leaves of a text that begins with the space after it
+none_left : (n : ℕ) → (n < 1) ⊎ (n < n) → n < 1
+none_left n (inl h) = h
+none_left n (inr h) = absurd (omega arith)
 
--- more than nine
-pub many_say : (l s : List ℕ) → length l ≡ 9 → none ≡ bind (front l (decimals (fields s))) nine_values
-unfolding decimals bind
-many_say l s h = rw (some_field s) (go (decimal_of (take (place space s) s)) (decimals (fields_after s (place space s))))
+pub next_field : (s field rest : List ℕ) (e : ℕ) (r : Option (Bor (List ℕ))) → e ≡ place space s → field ≡ take e s → rest ≡ drop e s
+    → MatchOption r ((length rest < 1) ⊎ (length rest < length rest)) (λ x. (1 ≤ length rest) × (length rest ≤ length rest) × (x.now ≡ slice_range rest 1 (length rest)) × (length x.now + 1 ≡ length rest))
+    → (decimal_of field, fields_of r) ≡ next_decimal (fields s)
+unfolding next_decimal
+next_field s field rest e None p f d h =
+    let l = none_left (length rest) h in
+    let n = length-drop e s in
+    let m = ap length d in
+    let w = place_within space s in
+    rw (fields_last s (omega arith), f, take_all e s (omega arith))
+next_field s field rest e (Some x) p f d h =
+    let n = length-drop e s in
+    let m = ap length d in
+    let g : x.now ≡ drop (suc e) s = h.2 ∙ tail_is rest 1 ∙ rw (d, drop-drop 1 e s, add-one) in
+    rw (fields_more s (omega arith), f, g, p)
+
+-- FIELDS TAKEN ONE AFTER THE OTHER: a list says of each whether it is a switch.
+
+abbrev kind : Bool → ℕ → Option ℕ
+kind true n = switch n
+kind false n = Some n
+
+pub taken : List Bool → List (List ℕ) → Option (List ℕ)
+taken [] [] = Some []
+taken [] (f ∷ r) = None
+taken (b ∷ k) [] = None
+taken (b ∷ k) (f ∷ r) = ahead (option_and_then (kind b) (decimal_of f)) (taken k r)
+
+fits : List Bool → List ℕ → Bool
+fits [] [] = true
+fits [] (n ∷ v) = false
+fits (b ∷ k) [] = false
+fits (b ∷ k) (n ∷ v) = cond b (leb n 1) true && fits k v
+
+fitting : List Bool → List ℕ → Option (List ℕ)
+fitting k v = cond (fits k v) (Some v) None
+
+taken_is : (k : List Bool) (f : List (List ℕ)) → taken k f ≡ option_and_then (fitting k) (decimals f)
+unfolding taken fits fitting decimals
+taken_is [] [] = refl
+taken_is [] (f ∷ r) = go (decimal_of f) (decimals r)
   where
-    go : (o : Option ℕ) (p : Option (List ℕ)) → none ≡ bind (front l (ahead o p)) nine_values
-    go none p = none_say refl
-    go (some n) none = none_say refl
-    go (some n) (some m) = unequal (l ++ n ∷ m) (λ e. let z = length-append l (n ∷ m) in omega arith)
-
--- nine numbers, written out
-pub nine : (v : List ℕ) → length v ≡ 9
-    → get_or v 0 0 ∷ get_or v 1 0 ∷ get_or v 2 0 ∷ get_or v 3 0 ∷ get_or v 4 0 ∷ get_or v 5 0 ∷ get_or v 6 0 ∷ get_or v 7 0 ∷ get_or v 8 0 ∷ [] ≡ v
-nine v h = sym (at 0 (omega arith) (at 1 (omega arith) (at 2 (omega arith) (at 3 (omega arith) (at 4 (omega arith) (at 5 (omega arith) (at 6 (omega arith) (at 7 (omega arith) (at 8 (omega arith) (drop_of_length-le v {i = 9} (omega arith)))))))))))
+    go : (o : Option ℕ) (p : Option (List ℕ)) → None ≡ option_and_then (fitting []) (ahead o p)
+    go None p = refl
+    go (Some n) None = refl
+    go (Some n) (Some v) = refl
+taken_is (b ∷ k) [] = refl
+taken_is (b ∷ k) (f ∷ r) = ap (ahead (option_and_then (kind b) (decimal_of f))) (taken_is k r) ∙ go b (decimal_of f) (decimals r)
   where
-    at : (i : ℕ) → i < length v → {r : List ℕ} → drop (suc i) v ≡ r → drop i v ≡ get_or v i 0 ∷ r
-    at i l e = drop-cons v i 0 l ∙ ap (λ (q : List ℕ). get_or v i 0 ∷ q) e
+    one : (n : ℕ) (v : List ℕ) (s t : Bool) → ahead (cond s (Some n) None) (cond t (Some v) None) ≡ cond (s && t) (Some (n ∷ v)) None
+    one n v true true = refl
+    one n v true false = refl
+    one n v false t = refl
 
-module _ (v : List ℕ) (n : ℕ) (h : 9 ≤ n) (l : length v ≡ 9) where
-  all : take n v ≡ v
-  all = take_all n v (omega arith)
+    nothing : (n : ℕ) (s : Bool) → ahead (cond s (Some n) None) None ≡ None
+    nothing n true = refl
+    nothing n false = refl
 
-  pub third_wrong : 1 < get_or v 3 0 → none ≡ nine_values (take n v)
-  unfolding nine_values
-  third_wrong a = rw (all, eq-eqb _ _ l, lt-leb _ _ a)
+    go : (b : Bool) (o : Option ℕ) (p : Option (List ℕ)) → ahead (option_and_then (kind b) o) (option_and_then (fitting k) p) ≡ option_and_then (fitting (b ∷ k)) (ahead o p)
+    go b None p = refl
+    go true (Some n) None = nothing n (leb n 1)
+    go false (Some n) None = refl
+    go true (Some n) (Some v) = one n v (leb n 1) (fits k v)
+    go false (Some n) (Some v) = one n v true (fits k v)
 
-  pub fourth_wrong : get_or v 3 0 ≤ 1 → 1 < get_or v 4 0 → none ≡ nine_values (take n v)
-  unfolding nine_values
-  fourth_wrong a b = rw (all, eq-eqb _ _ l, le-leb _ _ a, lt-leb _ _ b)
+-- the nine values: three of them are switches
+abbrev pub kinds : List Bool
+kinds = false ∷ false ∷ false ∷ true ∷ true ∷ true ∷ false ∷ false ∷ false ∷ []
 
-  pub fifth_wrong : get_or v 3 0 ≤ 1 → get_or v 4 0 ≤ 1 → 1 < get_or v 5 0 → none ≡ nine_values (take n v)
-  unfolding nine_values
-  fifth_wrong a b c = rw (all, eq-eqb _ _ l, le-leb _ _ a, le-leb _ _ b, lt-leb _ _ c)
+short : (s t u : Bool) (v : List ℕ) → cond (s && (t && (u && false))) (Some v) None ≡ None
+short true true true v = refl
+short true true false v = refl
+short true false u v = refl
+short false t u v = refl
 
-  pub nine_say : get_or v 3 0 ≤ 1 → get_or v 4 0 ≤ 1 → get_or v 5 0 ≤ 1 → some v ≡ nine_values (take n v)
-  unfolding nine_values
-  nine_say a b c = rw (all, eq-eqb _ _ l, le-leb _ _ a, le-leb _ _ b, le-leb _ _ c)
+fitting_nine : (v : List ℕ) → fitting kinds v ≡ nine_values v
+unfolding fits fitting nine_values
+fitting_nine [] = refl
+fitting_nine (a ∷ []) = refl
+fitting_nine (a ∷ b ∷ []) = refl
+fitting_nine (a ∷ b ∷ c ∷ []) = refl
+fitting_nine (a ∷ b ∷ c ∷ d ∷ []) = go (leb d 1)
+  where
+    go : (s : Bool) → cond (s && false) (Some (a ∷ b ∷ c ∷ d ∷ [])) None ≡ None
+    go true = refl
+    go false = refl
+fitting_nine (a ∷ b ∷ c ∷ d ∷ e ∷ []) = go (leb d 1) (leb e 1)
+  where
+    go : (s t : Bool) → cond (s && (t && false)) (Some (a ∷ b ∷ c ∷ d ∷ e ∷ [])) None ≡ None
+    go true true = refl
+    go true false = refl
+    go false t = refl
+fitting_nine (a ∷ b ∷ c ∷ d ∷ e ∷ f ∷ []) = short (leb d 1) (leb e 1) (leb f 1) (a ∷ b ∷ c ∷ d ∷ e ∷ f ∷ [])
+fitting_nine (a ∷ b ∷ c ∷ d ∷ e ∷ f ∷ g ∷ []) = short (leb d 1) (leb e 1) (leb f 1) (a ∷ b ∷ c ∷ d ∷ e ∷ f ∷ g ∷ [])
+fitting_nine (a ∷ b ∷ c ∷ d ∷ e ∷ f ∷ g ∷ h ∷ []) = short (leb d 1) (leb e 1) (leb f 1) (a ∷ b ∷ c ∷ d ∷ e ∷ f ∷ g ∷ h ∷ [])
+fitting_nine (a ∷ b ∷ c ∷ d ∷ e ∷ f ∷ g ∷ h ∷ i ∷ []) = go (leb d 1) (leb e 1) (leb f 1)
+  where
+    v : List ℕ
+    v = a ∷ b ∷ c ∷ d ∷ e ∷ f ∷ g ∷ h ∷ i ∷ []
 
-  pub nine_held : get_or v 3 0 ≤ 1 → get_or v 4 0 ≤ 1 → get_or v 5 0 ≤ 1
-      → some (get_or v 0 0 ∷ get_or v 1 0 ∷ get_or v 2 0 ∷ get_or v 3 0 ∷ get_or v 4 0 ∷ get_or v 5 0 ∷ get_or v 6 0 ∷ get_or v 7 0 ∷ get_or v 8 0 ∷ []) ≡ nine_values (take n v)
-  nine_held a b c = rw (nine v l) (nine_say a b c)
+    go : (s t u : Bool) → cond (s && (t && (u && true))) (Some v) None ≡ cond (s && t && u) (Some v) None
+    go true true true = refl
+    go true true false = refl
+    go true false u = refl
+    go false t u = refl
+fitting_nine (a ∷ b ∷ c ∷ d ∷ e ∷ f ∷ g ∷ h ∷ i ∷ j ∷ m) =
+    short (leb d 1) (leb e 1) (leb f 1) (a ∷ b ∷ c ∷ d ∷ e ∷ f ∷ g ∷ h ∷ i ∷ j ∷ m) ∙ unequal (a ∷ b ∷ c ∷ d ∷ e ∷ f ∷ g ∷ h ∷ i ∷ j ∷ m) (λ q. omega arith)
+
+pub nine_taken : (s : List ℕ) {o : Option (List ℕ)} → taken kinds (fields s) ≡ o → o ≡ option_and_then nine_values (decimals (fields s))
+nine_taken s h = sym h ∙ taken_is kinds (fields s) ∙ go (decimals (fields s))
+  where
+    go : (o : Option (List ℕ)) → option_and_then (fitting kinds) o ≡ option_and_then nine_values o
+    go None = refl
+    go (Some v) = fitting_nine v
+
+-- one field more
+missing_next : (b : Bool) (k : List Bool) (f : List (List ℕ)) → option_and_then (kind b) (next_decimal f).0 ≡ None → taken (b ∷ k) f ≡ None
+unfolding taken next_decimal
+missing_next b k [] h = refl
+missing_next b k (x ∷ r) h = rw h
+
+taken_next : (b : Bool) (k : List Bool) (f : List (List ℕ)) (n : ℕ) → option_and_then (kind b) (next_decimal f).0 ≡ Some n → taken (b ∷ k) f ≡ ahead (Some n) (taken k (next_decimal f).1)
+unfolding taken next_decimal
+taken_next b k [] n h = absurd (let z : ◌≡◌ {A = ℕ} 0 1 = cc in omega arith)
+taken_next b k (x ∷ r) n h = rw h
+
+some_kind : (o : Option ℕ) → option_and_then (kind false) o ≡ o
+some_kind None = refl
+some_kind (Some n) = refl
+
+module _ (k : List Bool) (f g : List (List ℕ)) {o : Option ℕ} where
+  pub decimal_missing : (o, g) ≡ next_decimal f → o ≡ None → taken (false ∷ k) f ≡ None
+  decimal_missing e h = missing_next false k f (some_kind _ ∙ sym (ap (λ p. p.0) e) ∙ h)
+
+  pub decimal_taken : (o, g) ≡ next_decimal f → (n : ℕ) → o ≡ Some n → taken (false ∷ k) f ≡ ahead (Some n) (taken k g)
+  decimal_taken e n h = taken_next false k f n (some_kind _ ∙ sym (ap (λ p. p.0) e) ∙ h) ∙ ap (λ r. ahead (Some n) (taken k r)) (sym (ap (λ p. p.1) e))
+
+  pub switch_missing : (o, g) ≡ next_switch f → o ≡ None → taken (true ∷ k) f ≡ None
+  unfolding next_switch
+  switch_missing e h = missing_next true k f (sym (ap (λ p. p.0) e) ∙ h)
+
+  pub switch_taken : (o, g) ≡ next_switch f → (n : ℕ) → o ≡ Some n → taken (true ∷ k) f ≡ ahead (Some n) (taken k g)
+  unfolding next_switch
+  switch_taken e n h = taken_next true k f n (sym (ap (λ p. p.0) e) ∙ h) ∙ ap (λ r. ahead (Some n) (taken k r)) (sym (ap (λ p. p.1) e))
+
+-- no field is left, or another
+pub all_taken : (o : Option (Bor (List ℕ))) → is_some o ≡ false → taken [] (fields_of o) ≡ Some []
+unfolding taken
+all_taken None h = refl
+all_taken (Some s) h = absurd (let z : ◌≡◌ {A = ℕ} 0 1 = cc in omega arith)
+
+pub too_many : (o : Option (Bor (List ℕ))) → is_some o ≡ true → taken [] (fields_of o) ≡ None
+unfolding taken
+too_many None h = absurd (let z : ◌≡◌ {A = ℕ} 0 1 = cc in omega arith)
+too_many (Some s) h = rw (some_field s.now)

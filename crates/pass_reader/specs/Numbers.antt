@@ -1,6 +1,6 @@
 -- Numbers in the pass text: decimal ones of at most 12 digits without leading zeros, and hexadecimal ones in lower case. Definitions only.
 use Rattle.std.specs.Prelude.{Bool, cond, ◌&&◌, ◌||◌, not, List, ℕ, ◌+◌, ◌-◌, ◌*◌, eqb, ltb, leb, length, get_or}
-use Rattle.std.proofs.Math.Option.{Option, none, some}
+use Rattle.std.specs.Prelude.{Option, Some, None}
 use Prim.Native.Char.{code}
 use Rattle.sequences.specs.Folds.{fold, every}
 
@@ -18,11 +18,11 @@ digit_behind base v b = v * base + digit_value b
 
 -- the number that digits write, the most significant first; none where a byte is no digit
 unfoldable pub number_of : ℕ → List ℕ → Option ℕ
-number_of base s = cond (every (is_digit base) s) (some (fold (digit_behind base) 0 s)) none
+number_of base s = cond (every (is_digit base) s) (Some (fold (digit_behind base) 0 s)) None
 
 -- at most 12 digits, without leading zeros: a number of two or more digits does not start with `0`
 unfoldable pub decimal_shape : List ℕ → Bool
 decimal_shape s = leb 1 (length s) && leb (length s) 12 && (eqb (length s) 1 || not (eqb (get_or s 0 0) (code "0")))
 
 unfoldable pub decimal_of : List ℕ → Option ℕ
-decimal_of s = cond (decimal_shape s) (number_of 10 s) none
+decimal_of s = cond (decimal_shape s) (number_of 10 s) None

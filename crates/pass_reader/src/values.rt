@@ -1,9 +1,11 @@
 // The line of values.
-ghost use Rattle.std.specs.Prelude.{◌≡◌, take};
-ghost use Rattle.std.proofs.Math.Option.{bind};
+ghost use Rattle.std.specs.Prelude.{◌≡◌, option_map, option_and_then};
 ghost use Rattle.pass_reader.specs.Bytes.{fields};
 ghost use Rattle.pass_reader.specs.Lines.{decimals, nine_values, values_line};
-ghost use Rattle.pass_reader.specs.Code.Answers.{values_said};
+ghost use Rattle.pass_reader.specs.Code.Answers.{values_of, fields_of, next_decimal, next_switch};
+
+use crate::line::{place_of, text_of};
+use crate::number::decimal;
 
 // The values in the order of their names.
 #[derive(Clone, Copy)]
@@ -19,71 +21,56 @@ pub struct Values {
     pub target: u64,
 }
 
+// The fields that are not read yet: the text that they stand in, or none after the last.
 #[derive(Clone, Copy)]
-pub enum ValuesRead {
-    Read(Values),
-    Outside,
+struct Fields<'a> {
+    rest: Option<&'a [u8]>,
 }
 
-// The first n numbers of v as values: there have to be nine, and three of them are switches.
-fn values_from(v: [u64; 9], n: usize) -> ValuesRead
-    ensures { values_said result ≡ nine_values (take n v) }
-{
-    if n < 9 {
-        return ValuesRead::Outside;
+impl<'a> Fields<'a> {
+    // The next field's number.
+    fn decimal(&mut self) -> Option<u64>
+        ensures { (result, fields_of self.new.rest) ≡ next_decimal (fields_of self.old.rest) }
+    {
+        let s = self.rest?;
+        let (field, rest) = s.split_at(place_of(s, b' '));
+        self.rest = rest.get(1..);
+        decimal(field)
     }
-    if v[3] > 1 {
-        return ValuesRead::Outside;
+
+    // The next field's number, if it is that of a switch.
+    fn switch(&mut self) -> Option<u64>
+        ensures { (result, fields_of self.new.rest) ≡ next_switch (fields_of self.old.rest) }
+    {
+        self.decimal().filter(|n| *n <= 1)
     }
-    if v[4] > 1 {
-        return ValuesRead::Outside;
-    }
-    if v[5] > 1 {
-        return ValuesRead::Outside;
-    }
-    ValuesRead::Read(Values {
-        rate: v[0],
-        factor: v[1],
-        modulation: v[2],
-        adaptive: v[3],
-        dual: v[4],
-        bank: v[5],
-        fade: v[6],
-        nominal: v[7],
-        target: v[8],
-    })
 }
 
-// Reads the fields of s one after the other, at most nine.
-fn nine_values(s: &[u8]) -> ValuesRead
-    ensures { values_said result ≡ bind (decimals (fields s.now)) nine_values }
+// Reads the fields of s one after the other: there have to be nine, and three of them are switches.
+fn nine_values(s: &[u8]) -> Option<Values>
+    ensures { option_map values_of result ≡ option_and_then nine_values (decimals (fields s.now)) }
 {
-    let mut v = [0u64; 9];
-    let mut at = 0;
-    let mut k = 0;
-    while k < 9 {
-        let end = at + crate::line::place_of(&s[at..], 32);
-        let field = crate::number::decimal(&s[at..end]);
-        let crate::number::Number::Value(x) = field else {
-            return ValuesRead::Outside;
-        };
-        v[k] = x;
-        k += 1;
-        if end == s.len() {
-            return values_from(v, k);
-        }
-        at = end + 1;
+    let mut fields = Fields { rest: Some(s) };
+    let values = Values {
+        rate: fields.decimal()?,
+        factor: fields.decimal()?,
+        modulation: fields.decimal()?,
+        adaptive: fields.switch()?,
+        dual: fields.switch()?,
+        bank: fields.switch()?,
+        fade: fields.decimal()?,
+        nominal: fields.decimal()?,
+        target: fields.decimal()?,
+    };
+    if fields.rest.is_some() {
+        return None;
     }
-    ValuesRead::Outside
+    Some(values)
 }
 
 // Reads the line of values.
-pub fn values_line(line: &[u8]) -> ValuesRead
-    ensures { values_said result ≡ values_line line.now }
+pub fn values_line(line: &[u8]) -> Option<Values>
+    ensures { option_map values_of result ≡ values_line line.now }
 {
-    if !crate::line::is_whole(line) {
-        return ValuesRead::Outside;
-    }
-    let n = line.len() - 1;
-    nine_values(&line[..n])
+    nine_values(text_of(line)?)
 }

@@ -1,7 +1,8 @@
 -- The line of a block, from what the steps of the code ensure.
 use mathlib.Core.Path.{◌≡◌, refl, ap, sym, ◌∙◌}
 use mathlib.Core.List.{List, [], ◌++◌}
-use mathlib.Core.Option.{Option, none, some}
+use Rattle.std.specs.Prelude.{Option, Some, None}
+use Rattle.std.proofs.lemmas.Option.{none-some, some_pair_parts}
 use Prim.Native.Nat.{ℕ, ◌+◌, ◌≤◌}
 use native.Mathlib.Omega.{arith}
 use lib.ListN.{length, take, drop, length-append}
@@ -11,10 +12,8 @@ use Rattle.channel_model.specs.declared.Channel.{Channel}
 use Rattle.channel_model.specs.declared.Answer.{Answer}
 use Rattle.channel_model.specs.declared.Blocked.{Blocked}
 use Rattle.channel_model.specs.Blocks.{Outcome, blocked, outcome}
-use Rattle.pass_reader.specs.declared.block.BlockRead.{BlockRead}
-use Rattle.pass_reader.specs.declared.block.BlockRead.TheVariants.{Taken, Refused}
 use Rattle.pass_reader.specs.Lines.{outside, flag_and_samples}
-use Rattle.pass_reader.specs.Code.Answers.{BlockSaid, read_into, block_said}
+use Rattle.pass_reader.specs.Code.Answers.{read_into}
 use Rattle.pass_writer.specs.declared.lines.Shown.{Shown}
 use Rattle.pass_writer.specs.Lines.{block_text}
 use Rattle.pass_writer.specs.Code.Buffers.{written}
@@ -35,48 +34,48 @@ module _ (p : Pass) (a : Answer) (c : Channel) where
 
 -- what a line of a block said, from what was read of it
 module _ (old new : List Float) where
-  read_refused : (o : Option (ℕ × List Float)) → (record { refusal = outside; flag = 0; count = 0 }, new) ≡ read_into o old → o ≡ none
+  read_refused : (o : Option (ℕ × List Float)) → (None, new) ≡ read_into o old → o ≡ None
   unfolding read_into
-  read_refused none e = refl
-  read_refused (some b) e = absurd (let z : 13 ≡ 0 = ap (λ (x : BlockSaid × List Float). x.0.refusal) e in omega arith)
+  read_refused None e = refl
+  read_refused (Some b) e = absurd (none-some _ (ap (λ (x : Option (ℕ × ℕ) × List Float). x.0) e))
 
   module _ (flag count : ℕ) where
-    read_taken : (o : Option (ℕ × List Float)) → (record { refusal = 0; flag = flag; count = count }, new) ≡ read_into o old → o ≡ some (flag, take count new)
+    read_taken : (o : Option (ℕ × List Float)) → (Some (flag, count), new) ≡ read_into o old → o ≡ Some (flag, take count new)
     unfolding read_into
-    read_taken none e = absurd (let z : 0 ≡ 13 = ap (λ (x : BlockSaid × List Float). x.0.refusal) e in omega arith)
-    read_taken (some b) e =
-        let f : flag ≡ b.0 = ap (λ (x : BlockSaid × List Float). x.0.flag) e in
-        let k : count ≡ length b.1 = ap (λ (x : BlockSaid × List Float). x.0.count) e in
-        let n : new ≡ b.1 ++ drop (length b.1) old = ap (λ (x : BlockSaid × List Float). x.1) e in
-        let t : take count new ≡ b.1 = ap (take count) n ∙ take_at b.1 (drop (length b.1) old) count (sym k) in
-        λ i. some (sym f i, sym t i)
+    read_taken None e = absurd (none-some _ (sym (ap (λ (x : Option (ℕ × ℕ) × List Float). x.0) e)))
+    read_taken (Some b) e =
+        let s = some_pair_parts flag b.0 count (length b.1) (ap (λ (x : Option (ℕ × ℕ) × List Float). x.0) e) in
+        let n : new ≡ b.1 ++ drop (length b.1) old = ap (λ (x : Option (ℕ × ℕ) × List Float). x.1) e in
+        let t : take count new ≡ b.1 = ap (take count) n ∙ take_at b.1 (drop (length b.1) old) count (sym s.1) in
+        λ i. Some (sym s.0 i, sym t i)
 
-    read-within : (o : Option (ℕ × List Float)) → (record { refusal = 0; flag = flag; count = count }, new) ≡ read_into o old → count ≤ length new
+    read-within : (o : Option (ℕ × List Float)) → (Some (flag, count), new) ≡ read_into o old → count ≤ length new
     unfolding read_into
-    read-within none e = absurd (let z : 0 ≡ 13 = ap (λ (x : BlockSaid × List Float). x.0.refusal) e in omega arith)
-    read-within (some b) e =
-        let k : count ≡ length b.1 = ap (λ (x : BlockSaid × List Float). x.0.count) e in
-        let n : length new ≡ length b.1 + length (drop (length b.1) old) = ap (λ (x : BlockSaid × List Float). length x.1) e ∙ length-append b.1 (drop (length b.1) old) in
+    read-within None e = absurd (none-some _ (sym (ap (λ (x : Option (ℕ × ℕ) × List Float). x.0) e)))
+    read-within (Some b) e =
+        let s = some_pair_parts flag b.0 count (length b.1) (ap (λ (x : Option (ℕ × ℕ) × List Float). x.0) e) in
+        let k = s.1 in
+        let n : length new ≡ length b.1 + length (drop (length b.1) old) = ap (λ (x : Option (ℕ × ℕ) × List Float). length x.1) e ∙ length-append b.1 (drop (length b.1) old) in
         omega arith
 
 -- what the line itself says, from what the code reads of it
-module _ (line : List ℕ) (old new : List Float) {b : BlockRead} (e : (block_said b, new) ≡ read_into (flag_and_samples line) old) where
-  said_refused : b ≡ Refused → flag_and_samples line ≡ none
-  said_refused h = read_refused old new (flag_and_samples line) (ap (λ (x : BlockRead). (block_said x, new)) (sym h) ∙ e)
+module _ (line : List ℕ) (old new : List Float) {b : Option (ℕ × ℕ)} (e : (b, new) ≡ read_into (flag_and_samples line) old) where
+  said_refused : b ≡ None → flag_and_samples line ≡ None
+  said_refused h = read_refused old new (flag_and_samples line) (ap (λ (x : Option (ℕ × ℕ)). (x, new)) (sym h) ∙ e)
 
-  said_taken : (flag count : ℕ) → b ≡ Taken flag count → flag_and_samples line ≡ some (flag, take count new)
-  said_taken flag count h = read_taken old new flag count (flag_and_samples line) (ap (λ (x : BlockRead). (block_said x, new)) (sym h) ∙ e)
+  said_taken : (flag count : ℕ) → b ≡ Some (flag, count) → flag_and_samples line ≡ Some (flag, take count new)
+  said_taken flag count h = read_taken old new flag count (flag_and_samples line) (ap (λ (x : Option (ℕ × ℕ)). (x, new)) (sym h) ∙ e)
 
-  pub said_within : (flag count : ℕ) → b ≡ Taken flag count → count ≤ length new
-  said_within flag count h = read-within old new flag count (flag_and_samples line) (ap (λ (x : BlockRead). (block_said x, new)) (sym h) ∙ e)
+  pub said_within : (flag count : ℕ) → b ≡ Some (flag, count) → count ≤ length new
+  said_within flag count h = read-within old new flag count (flag_and_samples line) (ap (λ (x : Option (ℕ × ℕ)). (x, new)) (sym h) ∙ e)
 
   module _ (p : Pass) (w : List Float) (at : ℕ) (out : List ℕ) where
-    pub block_refused : {x : Printed} → b ≡ Refused → x ≡ printed (line_refused outside p) at out → (x, w) ≡ printed_with (block_judged (flag_and_samples line) p w) at out
+    pub block_refused : {x : Printed} → b ≡ None → x ≡ printed (line_refused outside p) at out → (x, w) ≡ printed_with (block_judged (flag_and_samples line) p w) at out
     unfolding printed_with block_judged
     block_refused h ex =
         (λ i. (ex i, w)) ∙ ap (λ (o : Option (ℕ × List Float)). printed_with (block_judged o p w) at out) (sym (said_refused h))
 
-    pub block-answered : (flag count : ℕ) (d : Blocked) (first second after : List Float) {x : Printed} → b ≡ Taken flag count
+    pub block-answered : (flag count : ℕ) (d : Blocked) (first second after : List Float) {x : Printed} → b ≡ Some (flag, count)
         → outcome d first second after ≡ blocked p.channel (record { flag = flag; first = take count new; second = [] }) w
         → x ≡ printed (refused_or d.answer.refusal p (block_taken d.answer d.channel p)) at out
         → (x, after) ≡ printed_with (block_judged (flag_and_samples line) p w) at out

@@ -1,7 +1,7 @@
 -- What a line adds to the list is never longer than the list's longest line, so it is written where there is room for that.
 use mathlib.Core.Bool.{Bool, true, false, cond}
 use mathlib.Core.List.{List}
-use mathlib.Core.Option.{Option, none, some}
+use Rattle.std.specs.Prelude.{Option, Some, None}
 use Prim.Native.Nat.{ℕ, ◌≤◌}
 use native.Mathlib.Omega.{arith}
 use lib.Dec.{eqb}
@@ -46,8 +46,8 @@ module _ (p : Pass) where
 
   values_short : (o : Option (List ℕ)) → Short (values_judged o p)
   unfolding values_judged
-  values_short none = refused_short outside
-  values_short (some v) = or_short (readied v).refusal _ (taken_short BlockNames (readied v).channel)
+  values_short None = refused_short outside
+  values_short (Some v) = or_short (readied v).refusal _ (taken_short BlockNames (readied v).channel)
 
   block_taken_short : (a : Answer) (c : Channel) → Short (block_taken a c p)
   unfolding block_taken
@@ -59,8 +59,8 @@ module _ (p : Pass) where
 
   block_short : (o : Option (ℕ × List Float)) (w : List Float) → Short (block_judged o p w).0
   unfolding block_judged
-  block_short none w = refused_short outside
-  block_short (some b) w = answered_short _
+  block_short None w = refused_short outside
+  block_short (Some b) w = answered_short _
 
   pub judged_short : (s : Stage) (w : List Float) (line : List ℕ) → Short (judged s p w line).0
   unfolding judged

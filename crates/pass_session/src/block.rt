@@ -4,10 +4,13 @@ ghost use Rattle.pass_reader.specs.Lines.{flag_and_samples};
 ghost use Rattle.pass_setup.specs.Judging.{shown_of, refused_or, block_taken, block_judged};
 ghost use Rattle.pass_setup.specs.Code.Buffers.{printed, printed_with, as_printed};
 
+use channel_block::block::block;
 use channel_model::{Answer, Blocked};
-use pass_setup::pass::{Judged, Pass, Stage};
-use pass_writer::lines::Shown;
+use pass_reader::block::block_line as read_block;
+use pass_setup::pass::{Judged, OUTSIDE, Pass, Stage, count};
+use pass_writer::lines::{Shown, block_line};
 
+// Not a From: both types belong to other crates.
 fn shown(a: Answer) -> Shown
     ensures { result ≡ shown_of a }
 {
@@ -27,34 +30,28 @@ fn take_answer(p: Pass, b: Blocked, out: &mut [u8], at: usize) -> Judged
 {
     let a = b.answer;
     if a.refusal != 0 {
-        return pass_setup::pass::refuse(p, a.refusal, out, at);
+        return p.refuse(a.refusal, out, at);
     }
-    let line = pass_setup::pass::count(p.line);
-    let block = pass_setup::pass::count(p.block);
-    let s = shown(a);
-    let next = pass_writer::lines::block_line(out, at, block, s);
-    let stage = Stage::Blocks;
-    let channel = b.channel;
-    let pass = Pass {
-        stage,
-        line,
-        block,
-        channel,
-    };
-    Judged { pass, at: next }
+    let block = count(p.block);
+    Judged {
+        pass: Pass {
+            stage: Stage::Blocks,
+            line: count(p.line),
+            block,
+            channel: b.channel,
+        },
+        at: block_line(out, at, block, shown(a)),
+    }
 }
 
 // The samples are read into a buffer of the function's own, which the channel normalises in place.
 pub fn take_block(p: Pass, line: &[u8], windows: &mut [f64], out: &mut [u8], at: usize) -> Judged
     ensures { (as_printed result out.new, windows.new) ≡ printed_with (block_judged (flag_and_samples line.now) p windows.old) at out.old }
 {
-    let mut samples = [0.0f32; 4096];
-    let said = pass_reader::block::block_line(line, &mut samples);
-    let pass_reader::block::BlockRead::Taken { flag, count } = said else {
-        return pass_setup::pass::refuse(p, 13, out, at);
+    let mut samples = [0.0; 4096];
+    let Some((flag, count)) = read_block(line, &mut samples) else {
+        return p.refuse(OUTSIDE, out, at);
     };
-    let mut none = [0.0f32; 1];
-    let c = p.channel;
-    let b = channel_block::block::block(c, flag, &mut samples[..count], &mut none[..0], windows);
+    let b = block(p.channel, flag, &mut samples[..count], &mut [], windows);
     take_answer(p, b, out, at)
 }

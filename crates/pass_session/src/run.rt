@@ -3,7 +3,10 @@ ghost use Rattle.std.specs.Prelude.{◌≡◌};
 ghost use Rattle.pass_stream.specs.Stream.{lines};
 ghost use Rattle.pass_setup.specs.Code.Buffers.{lines_run, as_chunk_run};
 
+use crate::judge::judge;
 use pass_setup::pass::{Pass, Ran};
+use pass_stream::line_length;
+use pass_writer::lines::has_room;
 
 // Judges the whole lines of s, one after the other, as long as the list's buffer has room for its longest line.
 pub fn run(p: Pass, s: &[u8], windows: &mut [f64], out: &mut [u8], at: usize) -> Ran
@@ -12,13 +15,12 @@ pub fn run(p: Pass, s: &[u8], windows: &mut [f64], out: &mut [u8], at: usize) ->
     let mut pass = p;
     let mut used = 0;
     let mut to = at;
-    while pass_writer::lines::has_room(out.len(), to) {
-        let n = pass_stream::line_length(&s[used..]);
-        if n == 0 {
+    while has_room(out.len(), to) {
+        let Some(n) = line_length(&s[used..]) else {
             return Ran { pass, used, at: to };
-        }
+        };
         let end = used + n;
-        let j = crate::judge::judge(pass, &s[used..end], windows, out, to);
+        let j = judge(pass, &s[used..end], windows, out, to);
         pass = j.pass;
         used = end;
         to = j.at;

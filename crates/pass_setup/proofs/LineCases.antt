@@ -2,44 +2,38 @@
 use mathlib.Core.Path.{◌≡◌, refl, ap, sym, ◌∙◌}
 use mathlib.Core.Bool.{Bool, true, false, cond}
 use mathlib.Core.List.{List, []}
-use mathlib.Core.Option.{Option}
-use Prim.Native.Nat.{ℕ, ◌+◌, ◌<◌, ◌≤◌}
+use Rattle.std.specs.Prelude.{Option, Some, None, option_map}
+use Prim.Native.Nat.{ℕ, ◌+◌, ◌<◌, ◌≤◌, min}
 use native.Mathlib.Omega.{arith}
-use lib.Dec.{eqb, leb}
+use lib.Dec.{eqb, leb, ltb}
 use lib.ListN.{length}
 use lib.Ieee.{Float}
-use borrow.Author.Tests.{lt-ltb, le-ltb, eq-eqb, ne_eqb}
+use borrow.Author.Tests.{ltb-true, ltb-false, ne_eqb}
 use Rattle.channel_model.specs.declared.Channel.{Channel}
-use Rattle.channel_model.specs.declared.Settings.{Settings}
-use Rattle.channel_model.specs.declared.Carriers.{Carriers}
-use Rattle.channel_model.specs.declared.Returned.{Returned}
-use Rattle.channel_model.specs.Opening.{opened}
-use Rattle.channel_model.specs.Assigning.{assigned}
-use Rattle.pass_reader.specs.declared.values.ValuesRead.{ValuesRead}
-use Rattle.pass_reader.specs.declared.values.ValuesRead.TheVariants.{Read, Outside}
+use Rattle.channel_model.specs.Returns.{Returned}
 use Rattle.pass_reader.specs.declared.values.Values.{Values as ValuesRecord}
 use Rattle.pass_reader.specs.Bytes.{same}
 use Rattle.pass_reader.specs.Lines.{outside, names, block_names, values_line, flag_and_samples}
-use Rattle.pass_reader.specs.Code.Answers.{refusal_unless, values_of, values_said}
+use Rattle.pass_reader.specs.Code.Answers.{values_of}
 use Rattle.pass_writer.specs.Lines.{refusal_text}
 use Rattle.pass_writer.specs.Code.Buffers.{laid, longest, written}
 use Rattle.pass_writer.proofs.LaidLaws.{laid_nothing}
 use Rattle.pass_setup.specs.declared.pass.Stage.{Stage}
 use Rattle.pass_setup.specs.declared.pass.Stage.TheVariants.{Names, Values, BlockNames, Blocks, Stopped}
 use Rattle.pass_setup.specs.declared.pass.Pass.{Pass}
-use Rattle.pass_setup.specs.Opening.{settings_of, carriers_of, readied}
+use Rattle.pass_setup.specs.Opening.{readied}
 use Rattle.pass_setup.specs.Judging.{Judgement, counted, line_refused, line_taken, refused_or, values_judged, block_judged, judged}
 use Rattle.pass_setup.specs.Listing.{input_ended}
-use Rattle.pass_setup.specs.Code.Buffers.{Printed, printed, printed_with, as_printed}
+use Rattle.pass_setup.specs.Code.Buffers.{Printed, printed, printed_with, as_printed, is_stopped}
 
 -- counting
-pub counted_more : (n : ℕ) → n < 0xffff_ffff_ffff_ffff → n + 1 ≡ counted n
+pub counted_is : (n r : ℕ) → n ≤ 0xffff_ffff_ffff_ffff → r ≡ min (n + 1) 0xffff_ffff_ffff_ffff → r ≡ counted n
 unfolding counted
-counted_more n h = rw (lt-ltb n 0xffff_ffff_ffff_ffff h)
-
-pub counted_last : (n : ℕ) → 0xffff_ffff_ffff_ffff ≤ n → n ≡ counted n
-unfolding counted
-counted_last n h = rw (le-ltb n 0xffff_ffff_ffff_ffff h)
+counted_is n r w e = go (ltb n 0xffff_ffff_ffff_ffff) refl
+  where
+    go : (b : Bool) → ltb n 0xffff_ffff_ffff_ffff ≡ b → r ≡ cond b (n + 1) n
+    go true h = let l : n < 0xffff_ffff_ffff_ffff = ltb-true _ _ h in omega arith
+    go false h = let l : 0xffff_ffff_ffff_ffff ≤ n = ltb-false _ _ h in omega arith
 
 -- nothing to write, with room or without
 pub nothing_written : (at : ℕ) (old : List ℕ) → (at, old) ≡ written at [] old
@@ -80,61 +74,37 @@ module _ (p : Pass) (j : Judgement) where
   unfolding refused_or
   or_judged n h = ap (λ (k : ℕ). refused_or k p j) (sym h)
 
-  -- by the refusal number of a line of names
-  pub or_names : (expected line : List ℕ) {n : ℕ} → n ≡ refusal_unless expected line → refused_or n p j ≡ cond (same line expected) j (line_refused outside p)
-  unfolding refused_or refusal_unless
-  or_names expected line e = ap (λ (n : ℕ). refused_or n p j) e ∙ go (same line expected)
-    where
-      go : (b : Bool) → refused_or (cond b 0 outside) p j ≡ cond b j (line_refused outside p)
-      go true = refl
-      go false = refl
-
--- open, then assign
-module _ (v : List ℕ) {s : Settings} {o : Returned} (es : s ≡ settings_of v) (eo : o ≡ opened s) where
-  as_readied : cond (eqb o.refusal 0) (assigned o.channel (carriers_of v)) o ≡ readied v
-  unfolding readied
-  as_readied = ap (λ (x : Returned). cond (eqb x.refusal 0) (assigned x.channel (carriers_of v)) x) (eo ∙ ap opened es)
-
-  by_test : (b : Bool) → eqb o.refusal 0 ≡ b → cond b (assigned o.channel (carriers_of v)) o ≡ readied v
-  by_test b e = ap (λ (t : Bool). cond t (assigned o.channel (carriers_of v)) o) (sym e) ∙ as_readied
-
-  pub not_opened : (o.refusal ≡ 0 → ⊥) → o ≡ readied v
-  not_opened h = by_test false (ne_eqb _ _ h)
-
-  pub opened_assigned : {a : Carriers} {r : Returned} → o.refusal ≡ 0 → a ≡ carriers_of v → r ≡ assigned o.channel a → r ≡ readied v
-  opened_assigned z ea er = er ∙ ap (λ (x : Carriers). assigned o.channel x) ea ∙ by_test true (eq-eqb _ _ z)
-
 -- the line of values
-module _ (p : Pass) (line : List ℕ) {said : ValuesRead} (e : values_said said ≡ values_line line) where
-  pub values_outside : said ≡ Outside → line_refused outside p ≡ values_judged (values_line line) p
+module _ (p : Pass) (line : List ℕ) {said : Option ValuesRecord} (e : option_map values_of said ≡ values_line line) where
+  pub values_outside : said ≡ None → line_refused outside p ≡ values_judged (values_line line) p
   unfolding values_judged
-  values_outside h = ap (λ (s : Option (List ℕ)). values_judged s p) (ap values_said (sym h) ∙ e)
+  values_outside h = ap (λ (s : Option (List ℕ)). values_judged s p) (ap (option_map values_of) (sym h) ∙ e)
 
-  pub values_read : (v : ValuesRecord) {o : Returned} → said ≡ Read v → o ≡ readied (values_of v)
+  pub values_read : (v : ValuesRecord) {o : Returned} → said ≡ Some v → o ≡ readied (values_of v)
       → refused_or o.refusal p (line_taken BlockNames o.channel p) ≡ values_judged (values_line line) p
   unfolding values_judged
   values_read v h eo =
       ap (λ (x : Returned). refused_or x.refusal p (line_taken BlockNames x.channel p)) eo
-      ∙ ap (λ (s : Option (List ℕ)). values_judged s p) (ap values_said (sym h) ∙ e)
+      ∙ ap (λ (s : Option (List ℕ)). values_judged s p) (ap (option_map values_of) (sym h) ∙ e)
 
 -- a line, by where in the text it stands
 module _ (p : Pass) (w : List Float) (line : List ℕ) (at : ℕ) (out : List ℕ) where
-  pub names_judged : {n : ℕ} {x : Printed} → p.stage ≡ Names → n ≡ refusal_unless names line → x ≡ printed (refused_or n p (line_taken Values p.channel p)) at out
-      → (x, w) ≡ printed_with (judged p.stage p w line) at out
+  pub names_judged : {stands : Bool} {x : Printed} → p.stage ≡ Names → stands ≡ same line names
+      → x ≡ printed (cond stands (line_taken Values p.channel p) (line_refused outside p)) at out → (x, w) ≡ printed_with (judged p.stage p w line) at out
   unfolding printed_with judged
   names_judged es en ex =
-      let y = printed_as at out ex (or_names p (line_taken Values p.channel p) names line en) in
+      let y = printed_as at out ex (ap (λ (b : Bool). cond b (line_taken Values p.channel p) (line_refused outside p)) en) in
       (λ i. (y i, w)) ∙ ap (λ (s : Stage). printed_with (judged s p w line) at out) (sym es)
 
   pub values_judged_lem : {x : Printed} → p.stage ≡ Values → x ≡ printed (values_judged (values_line line) p) at out → (x, w) ≡ printed_with (judged p.stage p w line) at out
   unfolding printed_with judged
   values_judged_lem es ex = (λ i. (ex i, w)) ∙ ap (λ (s : Stage). printed_with (judged s p w line) at out) (sym es)
 
-  pub block_names_judged : {n : ℕ} {x : Printed} → p.stage ≡ BlockNames → n ≡ refusal_unless block_names line → x ≡ printed (refused_or n p (line_taken Blocks p.channel p)) at out
-      → (x, w) ≡ printed_with (judged p.stage p w line) at out
+  pub block_names_judged : {stands : Bool} {x : Printed} → p.stage ≡ BlockNames → stands ≡ same line block_names
+      → x ≡ printed (cond stands (line_taken Blocks p.channel p) (line_refused outside p)) at out → (x, w) ≡ printed_with (judged p.stage p w line) at out
   unfolding printed_with judged
   block_names_judged es en ex =
-      let y = printed_as at out ex (or_names p (line_taken Blocks p.channel p) block_names line en) in
+      let y = printed_as at out ex (ap (λ (b : Bool). cond b (line_taken Blocks p.channel p) (line_refused outside p)) en) in
       (λ i. (y i, w)) ∙ ap (λ (s : Stage). printed_with (judged s p w line) at out) (sym es)
 
   pub blocks_judged : {x : Printed × List Float} → p.stage ≡ Blocks → x ≡ printed_with (block_judged (flag_and_samples line) p w) at out
@@ -148,30 +118,35 @@ module _ (p : Pass) (w : List Float) (line : List ℕ) (at : ℕ) (out : List �
       let y = still_printed p at out in
       (λ i. (y i, w)) ∙ ap (λ (s : Stage). printed_with (judged s p w line) at out) (sym es)
 
+-- a stage that is not the end of the run
+pub goes_on : (s : Stage) → (s ≡ Stopped → ⊥) → false ≡ is_stopped s
+unfolding is_stopped
+goes_on Names h = refl
+goes_on Values h = refl
+goes_on BlockNames h = refl
+goes_on Blocks h = refl
+goes_on Stopped h = absurd (h refl)
+
 -- the end of the input
 module _ (p : Pass) (left : List ℕ) where
-  pub ends_names : p.stage ≡ Names → line_refused outside p ≡ input_ended p.stage p left
-  unfolding input_ended
-  ends_names e = ap (λ (s : Stage). input_ended s p left) (sym e)
-
-  pub ends_values : p.stage ≡ Values → line_refused outside p ≡ input_ended p.stage p left
-  unfolding input_ended
-  ends_values e = ap (λ (s : Stage). input_ended s p left) (sym e)
-
-  pub ends_block_names : p.stage ≡ BlockNames → line_refused outside p ≡ input_ended p.stage p left
-  unfolding input_ended
-  ends_block_names e = ap (λ (s : Stage). input_ended s p left) (sym e)
-
   by_left : (b : Bool) → eqb (length left) 0 ≡ b → p.stage ≡ Blocks → cond b (record { pass = p; text = [] }) (line_refused outside p) ≡ input_ended p.stage p left
   unfolding input_ended
   by_left b h e = ap (λ (t : Bool). cond t (record { pass = p; text = [] }) (line_refused outside p)) (sym h) ∙ ap (λ (s : Stage). input_ended s p left) (sym e)
 
-  pub ends_blocks : p.stage ≡ Blocks → length left ≡ 0 → record { pass = p; text = [] } ≡ input_ended p.stage p left
-  ends_blocks e h = by_left true (eq-eqb _ _ h) e
-
-  pub ends_cut : p.stage ≡ Blocks → (length left ≡ 0 → ⊥) → line_refused outside p ≡ input_ended p.stage p left
-  ends_cut e h = by_left false (ne_eqb _ _ h) e
+  pub ends_blocks : p.stage ≡ Blocks → eqb (length left) 0 ≡ true → record { pass = p; text = [] } ≡ input_ended p.stage p left
+  ends_blocks e h = by_left true h e
 
   pub ends_stopped : p.stage ≡ Stopped → record { pass = p; text = [] } ≡ input_ended p.stage p left
   unfolding input_ended
   ends_stopped e = ap (λ (s : Stage). input_ended s p left) (sym e)
+
+  pub ends_early : (s : Stage) → (s ≡ Stopped → ⊥) → (s ≡ Blocks → ⊥) → line_refused outside p ≡ input_ended s p left
+  unfolding input_ended
+  ends_early Names h k = refl
+  ends_early Values h k = refl
+  ends_early BlockNames h k = refl
+  ends_early Blocks h k = absurd (k refl)
+  ends_early Stopped h k = absurd (h refl)
+
+  pub ends_cut : p.stage ≡ Blocks → eqb (length left) 0 ≡ false → line_refused outside p ≡ input_ended p.stage p left
+  ends_cut e h = by_left false h e

@@ -1,8 +1,7 @@
 -- What one line of a pass text does (the scope, "The pass text and its list"): the first line is names, the second values, the third names,
 -- and each line after these is a block. "In one line, 13 comes before the other numbers." "A refused line prints `refused`, its line number and
 -- the refusal number, and ends the run." Definitions only.
-use Rattle.std.specs.Prelude.{cond, List, [], ℕ, ◌+◌, eqb, ltb, Float}
-use Rattle.std.proofs.Math.Option.{Option, none, some}
+use Rattle.std.specs.Prelude.{cond, List, [], ℕ, ◌+◌, eqb, ltb, Float, Option, Some, None}
 use Rattle.channel_model.specs.declared.Channel.{Channel}
 use Rattle.channel_model.specs.declared.Answer.{Answer}
 use Rattle.channel_model.specs.Opening.{new_channel, refused_settings}
@@ -47,8 +46,8 @@ refused_or number p j = cond (eqb number 0) j (line_refused number p)
 
 -- values open and assign the channel, if their line is in the form
 unfoldable pub values_judged : Option (List ℕ) → Pass → Judgement
-values_judged none p = line_refused outside p
-values_judged (some v) p = let o = readied v in refused_or o.refusal p (line_taken BlockNames o.channel p)
+values_judged None p = line_refused outside p
+values_judged (Some v) p = let o = readied v in refused_or o.refusal p (line_taken BlockNames o.channel p)
 
 -- what the list shows of an answer; fade is the count
 unfoldable pub shown_of : Answer → Shown
@@ -65,8 +64,8 @@ answered o p = (refused_or o.answer.refusal p (block_taken o.answer o.channel p)
 
 -- a block's flag and samples go to the channel, if its line is in the form
 unfoldable pub block_judged : Option (ℕ × List Float) → Pass → List Float → Judgement × List Float
-block_judged none p w = (line_refused outside p, w)
-block_judged (some b) p w = answered (blocked p.channel (record { flag = b.0; first = b.1; second = [] }) w) p
+block_judged None p w = (line_refused outside p, w)
+block_judged (Some b) p w = answered (blocked p.channel (record { flag = b.0; first = b.1; second = [] }) w) p
 
 -- a line, by the stage of the pass; after the end of the run there is nothing more
 unfoldable pub judged : Stage → Pass → List Float → List ℕ → Judgement × List Float

@@ -5,7 +5,7 @@ use Rattle.std.specs.Prelude.{Bool, cond, false, List, ℕ, eqb, get_or}
 use Rattle.ieee754.specs.Binary64 as float
 use Rattle.channel_model.specs.declared.Settings.{Settings}
 use Rattle.channel_model.specs.declared.Carriers.{Carriers}
-use Rattle.channel_model.specs.declared.Returned.{Returned}
+use Rattle.channel_model.specs.Returns.{Returned}
 use Rattle.channel_model.specs.Opening.{whole, opened}
 use Rattle.channel_model.specs.Assigning.{assigned}
 

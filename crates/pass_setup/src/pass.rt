@@ -1,9 +1,14 @@
 // A pass between two lines, and the two ways in which a line leaves it: taken, or refused.
 ghost use Rattle.std.specs.Prelude.{◌≡◌};
 ghost use Rattle.pass_setup.specs.Judging.{counted, new_pass, line_refused, line_taken};
-ghost use Rattle.pass_setup.specs.Code.Buffers.{printed, as_printed};
+ghost use Rattle.pass_setup.specs.Code.Buffers.{printed, as_printed, is_stopped};
 
-use channel_model::Channel;
+use channel_model::{Channel, Settings};
+use channel_open::open;
+use pass_writer::lines::refusal_line;
+
+// The refusal number of a line outside the form.
+pub const OUTSIDE: u64 = 13;
 
 // Which line comes next.
 #[derive(Clone, Copy)]
@@ -13,6 +18,15 @@ pub enum Stage {
     BlockNames,
     Blocks,
     Stopped,
+}
+
+impl Stage {
+    // Whether the run has ended, so that nothing more need be read.
+    pub fn is_stopped(self) -> bool
+        ensures { result ≡ is_stopped self }
+    {
+        matches!(self, Stage::Stopped)
+    }
 }
 
 // How many lines and blocks there were, and the channel.
@@ -43,63 +57,58 @@ pub struct Ran {
 pub fn count(n: u64) -> u64
     ensures { result ≡ counted n }
 {
-    if n < u64::MAX {
-        return n + 1;
+    n.saturating_add(1)
+}
+
+impl Pass {
+    // A pass before its first line. Its channel is that of a refused open.
+    #[tactic(auto, unfolding(crate::specs::Judging::new_pass, channel_model::specs::Opening::opened, channel_model::specs::Opening::open_refusal, channel_model::specs::Refusals::first_cause, channel_model::specs::Opening::bad_rate))]
+    pub fn new() -> Pass
+        ensures { result ≡ new_pass }
+    {
+        let opened = open(Settings {
+            rate: 0,
+            factor: 0,
+            modulation: 0,
+            adaptive: false,
+            dual_lock: false,
+            bank: false,
+            two: false,
+            fade: 0,
+            ratio: 1.0,
+        });
+        Pass {
+            stage: Stage::Names,
+            line: 0,
+            block: 0,
+            channel: opened.unwrap_or_else(|refused| refused.channel),
+        }
     }
-    n
-}
 
-// A pass before its first line.
-pub fn new_pass() -> Pass
-    ensures { result ≡ new_pass }
-{
-    let o = channel_open::open(channel_model::Settings {
-        rate: 0,
-        factor: 0,
-        modulation: 0,
-        adaptive: false,
-        dual_lock: false,
-        bank: false,
-        two: false,
-        fade: 0,
-        ratio: 1.0,
-    });
-    let channel = o.channel;
-    let stage = Stage::Names;
-    Pass {
-        stage,
-        line: 0,
-        block: 0,
-        channel,
+    // The line is refused, which ends the run.
+    pub fn refuse(self, number: u64, out: &mut [u8], at: usize) -> Judged
+        ensures { as_printed result out.new ≡ printed (line_refused number self) at out.old }
+    {
+        let line = count(self.line);
+        Judged {
+            pass: Pass {
+                stage: Stage::Stopped,
+                line,
+                ..self
+            },
+            at: refusal_line(out, at, line, number),
+        }
     }
-}
 
-// The line is refused, which ends the run.
-pub fn refuse(p: Pass, number: u64, out: &mut [u8], at: usize) -> Judged
-    ensures { as_printed result out.new ≡ printed (line_refused number p) at out.old }
-{
-    let line = count(p.line);
-    let next = pass_writer::lines::refusal_line(out, at, line, number);
-    let stage = Stage::Stopped;
-    let channel = p.channel;
-    let pass = Pass {
-        stage,
-        line,
-        block: p.block,
-        channel,
-    };
-    Judged { pass, at: next }
-}
-
-// The line is taken, and the list does not change.
-pub fn take(p: Pass, stage: Stage, channel: Channel) -> Pass
-    ensures { result ≡ (line_taken stage channel p).pass }
-{
-    let line = count(p.line);
-    Pass {
-        stage,
-        line,
-        block: p.block,
-        channel,
+    // The line is taken, and the list does not change.
+    pub fn take(self, stage: Stage, channel: Channel) -> Pass
+        ensures { result ≡ (line_taken stage channel self).pass }
+    {
+        Pass {
+            stage,
+            line: count(self.line),
+            channel,
+            ..self
+        }
     }
 }

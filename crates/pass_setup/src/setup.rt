@@ -1,28 +1,34 @@
 // The first three lines: names, values, names.
-ghost use Rattle.std.specs.Prelude.{◌≡◌};
-ghost use Rattle.pass_reader.specs.Lines.{values_line};
+ghost use Rattle.std.specs.Prelude.{◌≡◌, cond};
+ghost use Rattle.channel_model.specs.Returns.{returned};
+ghost use Rattle.pass_reader.specs.Lines.{outside, values_line};
 ghost use Rattle.pass_reader.specs.Code.Answers.{values_of};
 ghost use Rattle.pass_setup.specs.Opening.{settings_of, carriers_of, readied};
-ghost use Rattle.pass_setup.specs.Judging.{line_taken, refused_or, values_judged};
+ghost use Rattle.pass_setup.specs.Judging.{line_refused, line_taken, refused_or, values_judged};
 ghost use Rattle.pass_setup.specs.Code.Buffers.{printed, as_printed};
 
-use crate::pass::{Judged, Pass, Stage};
-use channel_model::{Carriers, Returned, Settings};
+use crate::pass::{Judged, OUTSIDE, Pass, Stage};
+use channel_control::assign::assign;
+use channel_model::{Carriers, Channel, Refused, Settings};
+use channel_open::open;
 use ieee754::conversion::u64_to_f64;
-use pass_reader::values::{Values, ValuesRead};
+use pass_reader::values::{Values, values_line};
 
-// A line of names, by its refusal number: 0 where it is the one that has to stand here.
-pub fn take_names(p: Pass, refusal: u64, next: Stage, out: &mut [u8], at: usize) -> Judged
-    ensures { as_printed result out.new ≡ printed (refused_or refusal p (line_taken next p.channel p)) at out.old }
+// A line of names: whether it is the one that has to stand here.
+pub fn take_names(p: Pass, stands: bool, next: Stage, out: &mut [u8], at: usize) -> Judged
+    ensures { as_printed result out.new ≡ printed (cond stands (line_taken next p.channel p) (line_refused outside p)) at out.old }
 {
-    if refusal != 0 {
-        return crate::pass::refuse(p, refusal, out, at);
+    if stands {
+        Judged {
+            pass: p.take(next, p.channel),
+            at,
+        }
+    } else {
+        p.refuse(OUTSIDE, out, at)
     }
-    let channel = p.channel;
-    let pass = crate::pass::take(p, next, channel);
-    Judged { pass, at }
 }
 
+// Not a From, nor is `carriers`: both types belong to other crates.
 fn settings(v: Values) -> Settings
     ensures { result ≡ settings_of (values_of v) }
 {
@@ -42,51 +48,42 @@ fn settings(v: Values) -> Settings
 fn carriers(v: Values) -> Carriers
     ensures { result ≡ carriers_of (values_of v) }
 {
-    let nominal = u64_to_f64(v.nominal);
-    let target = u64_to_f64(v.target);
     Carriers {
-        nominal,
-        target,
+        nominal: u64_to_f64(v.nominal),
+        target: u64_to_f64(v.target),
         target2: 0.0,
         frequency2: 0.0,
     }
 }
 
 // Opens a channel and assigns it.
-fn ready(v: Values) -> Returned
-    ensures { result ≡ readied (values_of v) }
+#[tactic(auto, unfolding(crate::specs::Opening::readied))]
+fn ready(v: Values) -> Result<Channel, Refused>
+    ensures { returned result ≡ readied (values_of v) }
 {
-    let s = settings(v);
-    let o = channel_open::open(s);
-    if o.refusal != 0 {
-        return o;
-    }
-    let a = carriers(v);
-    let c = o.channel;
-    channel_control::assign::assign(c, a)
+    assign(open(settings(v))?, carriers(v))
 }
 
 // A channel that is opened and assigned, or the refusal of one of the two.
-fn take_channel(p: Pass, o: Returned, out: &mut [u8], at: usize) -> Judged
-    ensures { as_printed result out.new ≡ printed (refused_or o.refusal p (line_taken Stage.BlockNames o.channel p)) at out.old }
+#[tactic(auto, using(crate::proofs::LineCases::taken_printed), unfolding(crate::specs::Judging::refused_or))]
+fn take_channel(p: Pass, ready: Result<Channel, Refused>, out: &mut [u8], at: usize) -> Judged
+    ensures { as_printed result out.new ≡ printed (refused_or (returned ready).refusal p (line_taken Stage.BlockNames (returned ready).channel p)) at out.old }
 {
-    if o.refusal != 0 {
-        return crate::pass::refuse(p, o.refusal, out, at);
+    match ready {
+        Ok(channel) => Judged {
+            pass: p.take(Stage::BlockNames, channel),
+            at,
+        },
+        Err(refused) => p.refuse(refused.refusal.number(), out, at),
     }
-    let c = o.channel;
-    let stage = Stage::BlockNames;
-    let pass = crate::pass::take(p, stage, c);
-    Judged { pass, at }
 }
 
 // The line of values: its form first, then open, then assign.
 pub fn take_values(p: Pass, line: &[u8], out: &mut [u8], at: usize) -> Judged
     ensures { as_printed result out.new ≡ printed (values_judged (values_line line.now) p) at out.old }
 {
-    let said = pass_reader::values::values_line(line);
-    let ValuesRead::Read(v) = said else {
-        return crate::pass::refuse(p, 13, out, at);
+    let Some(v) = values_line(line) else {
+        return p.refuse(OUTSIDE, out, at);
     };
-    let o = ready(v);
-    take_channel(p, o, out, at)
+    take_channel(p, ready(v), out, at)
 }

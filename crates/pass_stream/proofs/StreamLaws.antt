@@ -154,10 +154,10 @@ pub fold_chunks {ℓ} : {P : Type ℓ} (step : P → List ℕ → P) (p : P) (a 
 fold_chunks step p a b = ap (fold step p) (lines_chunks a b) ∙ fold_append step p (lines a) (lines (rest a ++ b))
 
 -- the length of the first line from the place of the newline
-pub length_none : (s : List ℕ) (n : ℕ) → n ≡ place newline s → n ≡ length s → 0 ≡ line_length s
+pub length_none : (s : List ℕ) (n : ℕ) → n ≡ place newline s → length s ≤ n → line_length s ≡ 0
 unfolding line_length
 length_none s n e h = rw (le-ltb (place newline s) (length s) (omega arith))
 
-pub length_some : (s : List ℕ) (n : ℕ) → n ≡ place newline s → (n ≡ length s → ⊥) → n + 1 ≡ line_length s
+pub length_some : (s : List ℕ) (n : ℕ) → n ≡ place newline s → n < length s → n + 1 ≡ line_length s
 unfolding line_length
-length_some s n e h = let w = place_within newline s in rw (lt-ltb (place newline s) (length s) (omega arith), e)
+length_some s n e h = rw (lt-ltb (place newline s) (length s) (omega arith), e)

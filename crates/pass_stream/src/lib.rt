@@ -2,42 +2,26 @@
 // The laws that a loop over chunks cites are in proofs/StreamLaws.antt: no border of a chunk can be seen.
 #![tactic(auto)]
 
-ghost use Rattle.std.specs.Prelude.{◌≡◌, ◌++◌, ◌+◌, ◌-◌, ◌≤◌, length, take, drop};
+ghost use Rattle.std.specs.Prelude.{◌≡◌, ◌<◌, MatchOption};
 ghost use Rattle.pass_stream.specs.Code.Carrying.{line_length, carried};
 
-// How many bytes the first line of s has, its newline with them; 0 where no line ends in s.
-pub fn line_length(s: &[u8]) -> usize
-    ensures { result ≡ line_length s.now }
-{
-    let n = pass_reader::line::place_of(s, 10);
-    if n == s.len() {
-        return 0;
-    }
-    n + 1
-}
+use pass_reader::line::place_of;
 
-fn move_to_front(buf: &mut [u8], from: usize, n: usize)
-    requires { from + n ≤ length buf.old }
-    ensures { buf.new ≡ take n (drop from buf.old) ++ drop n buf.old }
+// How many bytes the first line of s has, its newline with them; none where no line ends in s.
+pub fn line_length(s: &[u8]) -> Option<usize>
+    ensures { MatchOption result (line_length s.now ≡ 0) (λ n. (0 < n) × (n ≡ line_length s.now)) }
 {
-    let mut i = 0;
-    while i < n {
-        buf[i] = buf[from + i];
-        i += 1;
-    }
+    let n = place_of(s, b'\n');
+    if n < s.len() { Some(n + 1) } else { None }
 }
 
 // Moves the bytes from `from` up to `to` to the front, and answers how many they are.
 pub fn carry(buf: &mut [u8], from: usize, to: usize) -> usize
     ensures { (result, buf.new) ≡ carried from to buf.old }
 {
-    if from > to {
+    if from > to || to > buf.len() {
         return 0;
     }
-    if to > buf.len() {
-        return 0;
-    }
-    let n = to - from;
-    move_to_front(buf, from, n);
-    n
+    buf.copy_within(from..to, 0);
+    to - from
 }

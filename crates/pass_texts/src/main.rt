@@ -14,8 +14,7 @@ fn list_text<R: Read, S: Print + Eprint + Clock>(rt: &S, input: &mut R) {
 
 // The list of what is not open for reading.
 fn list_unread<S: Files + Print + Eprint + Clock>(rt: &S) {
-    let opened = OpenOptions::new().write(true).open(rt, "/dev/null");
-    if let Ok(mut unread) = opened {
+    if let Ok(mut unread) = OpenOptions::new().write(true).open(rt, "/dev/null") {
         list_text(rt, &mut unread);
     }
 }
@@ -28,11 +27,8 @@ fn list_file<S: Files + Print + Eprint + Clock>(rt: &S, name: &str) {
 }
 
 fn main(rt: HostRuntime) {
-    list_file(&rt, "long");
-    list_file(&rt, "middle");
-    list_file(&rt, "end");
-    list_file(&rt, "overlong");
-    list_file(&rt, "empty");
-    list_file(&rt, "/");
+    for name in ["long", "middle", "end", "overlong", "empty", "/"] {
+        list_file(&rt, name);
+    }
     list_unread(&rt);
 }

@@ -15,7 +15,6 @@ use Rattle.std.specs.Io.KnownBytes.{Keeps, Appends, Consumes, IsAtEnd, ReadConsu
 use Rattle.std.proofs.KnownBytes.{Consumes-kept, Consumes-trans, Appends-kept, Appends-trans}
 use Rattle.pass_writer.specs.Lines.{failure_text}
 use Rattle.pass_setup.specs.Listing.{Run}
-use Rattle.pass_transfer.specs.declared.Got.TheVariants.{Bytes, End}
 use Rattle.pass_transfer.specs.declared.Next.{Next}
 use Rattle.pass_transfer.specs.declared.Next.TheVariants.{Read, Failed}
 use Rattle.pass_transfer.specs.declared.State.{State}
@@ -35,7 +34,7 @@ unfolding got_of Took
 took_of (Err e) had left part bound h = h
 took_of (Ok n) had left part bound h = go (eqb (min n (length part)) 0) refl
   where
-    go : (b : Bool) → eqb (min n (length part)) 0 ≡ b → Took (cond b End (Bytes (min n (length part)))) had left part
+    go : (b : Bool) → eqb (min n (length part)) 0 ≡ b → Took (Ok (cond b None (Some (min n (length part))))) had left part
     go true e =
         let m = eqb-true (min n (length part)) 0 e in
         let w = bound.0 in

@@ -1,34 +1,29 @@
 -- What the answer of a read means.
 use mathlib.Core.Path.{◌≡◌, refl, sym, subst, ◌∙◌}
 use mathlib.Core.Bool.{Bool, true, false, cond}
-use Prim.Native.Nat.{ℕ, ◌-◌, ◌≤◌, ◌<◌, min}
+use Prim.Native.Nat.{ℕ, zero, suc, ◌≤◌, ◌<◌, min}
 use native.Mathlib.Omega.{arith}
-use mathlib.Core.List.{List, ◌++◌}
-use lib.Dec.{eqb}
-use lib.ListN.{length, take, drop, length-drop}
-use lib.Seq.{take_at, length-take-le}
+use lib.Dec.{eqb, ltb}
 use lib.IntN.{ℤ}
-use borrow.Author.Tests.{eq-eqb, ne_eqb, eqb-false}
-use Rattle.std.specs.Prelude.{Result, Ok, Err, Some, None}
+use borrow.Author.Tests.{eq-eqb, ne_eqb, eqb-false, lt-ltb}
+use Rattle.std.specs.Prelude.{Result, Ok, Err, Option, Some, None}
+use Rattle.std.specs.Bool.{then_some}
 use Rattle.std.specs.IoError.{error_kind, raw_os_error}
 use Rattle.std.specs.declared.io.ErrorKind.{ErrorKind}
 use Rattle.std.specs.declared.io.ErrorKind.TheVariants.{WouldBlock, Interrupted}
 use Rattle.std.specs.declared.io.Error.{Error}
-use Rattle.pass_transfer.specs.declared.Got.{Got}
-use Rattle.pass_transfer.specs.declared.Got.TheVariants.{Bytes, End, Failed}
 use Rattle.pass_transfer.specs.Code.Standing.{got_of, Brought, error_of, kind_number, failure_of, is_passing}
 
 -- what an answer means, by what it is
-module _ (got : Result ℕ Error) (n count most : ℕ) (is : got ≡ Ok n) (e : count ≡ min n most) where
-  pub end_is : count ≡ 0 → End ≡ got_of got most
-  unfolding got_of
-  end_is none = let z : min n most ≡ 0 = omega arith in rw (is, z) refl
+pub count_is : (got : Result ℕ Error) (n count most : ℕ) (b : Bool) → got ≡ Ok n → count ≡ min n most → b ≡ ltb 0 count → Ok (then_some b count) ≡ got_of got most
+unfolding got_of
+count_is got n count most b is e t = rw (is, t, e, go (min n most))
+  where
+    go : (k : ℕ) → then_some (ltb 0 k) k ≡ cond (eqb k 0) None (Some k)
+    go zero = refl
+    go (suc k) = rw (lt-ltb 0 (suc k) (omega arith), ne_eqb (suc k) 0 (λ z. omega arith))
 
-  pub bytes_is : (count ≡ 0 → ⊥) → Bytes count ≡ got_of got most
-  unfolding got_of
-  bytes_is some = rw (is, ← e, ne_eqb count 0 some) refl
-
-pub failure_is : (got : Result ℕ Error) (e : Error) (most : ℕ) → got ≡ Err e → Failed e ≡ got_of got most
+pub failure_is : (got : Result ℕ Error) (e : Error) (most : ℕ) → got ≡ Err e → Err e ≡ got_of got most
 unfolding got_of
 failure_is got e most is = rw is refl
 
@@ -36,25 +31,17 @@ brought_of : (z : Result ℕ Error) (most : ℕ) → Brought (got_of z most) mos
 unfolding got_of Brought
 brought_of (Ok k) most = go (eqb (min k most) 0) refl
   where
-    go : (b : Bool) → eqb (min k most) 0 ≡ b → Brought (cond b End (Bytes (min k most))) most
+    go : (b : Bool) → eqb (min k most) 0 ≡ b → Brought (Ok (cond b None (Some (min k most)))) most
     go true h = tt
     go false h = (let n : min k most ≡ 0 → ⊥ = eqb-false _ _ h in omega arith, omega arith)
 brought_of (Err e) most = tt
 
--- bytes in front of a part that is lent stay
-pub front_stays : (left : ℕ) (old part : List ℕ) → left ≤ length old → take left (take left old ++ part) ≡ take left old
-front_stays left old part h = take_at (take left old) part left (length-take-le left old h)
-
-pub bytes_within : (g : Got) (most n : ℕ) → Brought g most → g ≡ Bytes n → (0 < n) × (n ≤ most)
+pub bytes_within : (g : Result (Option ℕ) Error) (most n : ℕ) → Brought g most → g ≡ Ok (Some n) → (0 < n) × (n ≤ most)
 unfolding Brought
-bytes_within g most n h e = subst (λ (x : Got). Brought x most) e h
+bytes_within g most n h e = subst (λ (x : Result (Option ℕ) Error). Brought x most) e h
 
-pub brought : (g : Got) (z : Result ℕ Error) (most n : ℕ) → g ≡ got_of z most → most ≡ n → Brought g n
-brought g z most n e m = subst (λ (k : ℕ). Brought g k) m (subst (λ (x : Got). Brought x most) (sym e) (brought_of z most))
-
--- how long a part is that is lent from a place on
-pub part_count : (n : ℕ) (l : List ℕ) → length (take (length l - n) (drop n l)) ≡ length l - n
-part_count n l = let d : length (drop n l) ≡ length l - n = simp length-drop refl in length-take-le (length l - n) (drop n l) (omega arith)
+pub brought : (g : Result (Option ℕ) Error) (z : Result ℕ Error) (most n : ℕ) → g ≡ got_of z most → most ≡ n → Brought g n
+brought g z most n e m = subst (λ (k : ℕ). Brought g k) m (subst (λ (x : Result (Option ℕ) Error). Brought x most) (sym e) (brought_of z most))
 
 -- an error's number
 pub numbered : (e : Error) (code : ℤ) → Some code ≡ raw_os_error e → error_of code ≡ failure_of e

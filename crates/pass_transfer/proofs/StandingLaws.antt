@@ -7,14 +7,14 @@ use native.Mathlib.Omega.{arith}
 use lib.Dec.{ltb}
 use lib.ListN.{length, take, drop, length-append, length-drop, take-append-drop, drop_of_length-le}
 use lib.Seq.{length-take-le, take-add, drop-drop}
-use borrow.Author.Tests.{ltb-false, lt-ltb, le-ltb}
+use borrow.Author.Tests.{ltb-false}
 use Rattle.pass_writer.specs.Lines.{failure_text}
 use Rattle.pass_setup.specs.Listing.{Run, list_of, list_after}
 use Rattle.pass_transfer.specs.declared.Next.{Next}
 use Rattle.pass_transfer.specs.declared.Next.TheVariants.{Read, Turn, Close, Refused, Ended, Failed}
 use Rattle.pass_transfer.specs.declared.State.{State}
 use Rattle.pass_transfer.specs.Account.{Listed, Accounted, Completed, is_last}
-use Rattle.pass_transfer.specs.Code.Standing.{NoLine, is_over, is_held, is_due, Counted, Standing, Ready, waits, Stands, with_written, given_up, with_more, with_end, with_last, account_of}
+use Rattle.pass_transfer.specs.Code.Standing.{NoLine, is_over, Counted, Standing, Ready, waits, Stands, with_written, given_up, with_more, with_end, with_last, account_of}
 
 -- ---- what waits
 
@@ -190,26 +190,6 @@ completed s sent over turns free left = go s.stuck (ltb s.from s.at) free refl o
     go true b f t o = absurd (let z : ◌≡◌ {A = ℕ} 0 1 = cc in omega arith)
     go false true f t o = absurd (let z : ◌≡◌ {A = ℕ} 0 1 = cc in omega arith)
     go false false f t o = (let l : s.at ≤ s.from = ltb-false _ _ t in omega arith, o)
-
-pub unfinished : (s : State) → Completed (account_of s 0)
-unfinished s free left = absurd (omega arith)
-
--- ---- whether a run is over, and whose turn it is
-
-pub over_stuck : (s : State) → s.stuck ≡ true → true ≡ is_over s
-over_stuck s h = rw h
-
-pub over_waits : (s : State) → s.stuck ≡ false → s.from < s.at → false ≡ is_over s
-over_waits s h w = rw (h, lt-ltb _ _ w)
-
-pub over_last : (s : State) → s.stuck ≡ false → s.at ≤ s.from → is_last s.next ≡ is_over s
-over_last s h w = rw (h, le-ltb _ _ w)
-
-pub due_waits : (s : State) → s.from < s.at → false ≡ is_due s
-due_waits s w = rw (lt-ltb _ _ w)
-
-pub due_held : (s : State) → s.at ≤ s.from → is_held s.next ≡ is_due s
-due_held s w = rw (le-ltb _ _ w)
 
 -- ---- what a function below says of a state, said of the one that it returned
 

@@ -8,11 +8,18 @@ ghost use Rattle.std.specs.Io.KnownBytes.{WriteAppends};
 ghost use Rattle.pass_writer.specs.Code.Buffers.{longest};
 ghost use Rattle.pass_setup.specs.Listing.{Run};
 ghost use Rattle.pass_transfer.specs.Account.{is_last};
-ghost use Rattle.pass_transfer.specs.Code.Standing.{got_of, Brought, Took, error_of, failure_of, is_passing, is_over, is_held, is_due, Sizes, Countable, Counted, waits, Placed, Stands, Moves, Asking, with_written, given_up, with_more, with_end, with_last, account_of};
+ghost use Rattle.pass_transfer.specs.Code.Standing.{got_of, Brought, Took, error_of, failure_of, is_passing, is_over, is_held, is_due, Countable, Counted, waits, Placed, Stands, Moves, Asking, with_written, given_up, with_more, with_end, with_last, account_of};
 
+use pass_pause::pause;
+use pass_writer::lines::failure_line;
 use std::io;
 use std::io::{ErrorKind, Read, Write};
 use std::time::Clock;
+
+// How many bytes of the text are held at most, and of the list.
+pub const TEXT: usize = 262144;
+
+pub const LIST: usize = 65536;
 
 // What comes when all that is made of the list is written: more of the text is read; the lines that are held are taken; the text has ended, and what is held of
 // a line is all that is left; or nothing, since a line was refused, since the list is at its end, or since a read failed.
@@ -26,16 +33,25 @@ pub enum Next {
     Failed,
 }
 
-// What a read brought.
-#[derive(Clone, Copy)]
-pub enum Got {
-    Bytes(usize),
-    End,
-    Failed(io::Error),
+impl Next {
+    // Whether nothing comes next.
+    fn is_last(self) -> bool
+        ensures { result ≡ is_last self }
+    {
+        matches!(self, Next::Refused | Next::Ended | Next::Failed)
+    }
+
+    // Whether the bytes that are held are taken next.
+    fn is_held(self) -> bool
+        ensures { result ≡ is_held self }
+    {
+        matches!(self, Next::Turn | Next::Close)
+    }
 }
 
 // Where the stream stands. `left` bytes of the text are held at the front of its buffer; of the `at` bytes at the front of the list's buffer the first `from`
 // are written. `error` is that of a read that failed; `stuck` says that a write failed. `read` and `written` count bytes.
+// The error is not in `Next::Failed`: what is promised of a run reads it from its account, as a number beside what comes next.
 #[derive(Clone, Copy)]
 pub struct State {
     pub left: usize,
@@ -61,23 +77,15 @@ pub struct Account {
     pub turns: u64,
 }
 
-// What the answer of a read means.
-fn got_of(got: io::Result<usize>, part: &[u8]) -> Got
+// What the answer of a read means: how many bytes came, or none at the end of the input.
+fn got_of(got: io::Result<usize>, part: &[u8]) -> io::Result<Option<usize>>
     ensures { result ≡ got_of got (length part.now) }
 {
-    match got {
-        Ok(n) => {
-            let count = n.min(part.len());
-            if count == 0 {
-                return Got::End;
-            }
-            Got::Bytes(count)
-        }
-        Err(error) => Got::Failed(error),
-    }
+    let count = got?.min(part.len());
+    Ok((count > 0).then_some(count))
 }
 
-fn read_once<R: Read>(part: &mut [u8], input: &mut R) -> Got
+fn read_once<R: Read>(part: &mut [u8], input: &mut R) -> io::Result<Option<usize>>
     ensures brought { Brought result (length part.old) }
     ensures took { Took result (R.remaining input.old) (R.remaining input.new) part.new }
 {
@@ -86,7 +94,7 @@ fn read_once<R: Read>(part: &mut [u8], input: &mut R) -> Got
 }
 
 // Reads once, behind the bytes that are held.
-fn read_behind<R: Read>(buf: &mut [u8], left: usize, input: &mut R) -> Got
+fn read_behind<R: Read>(buf: &mut [u8], left: usize, input: &mut R) -> io::Result<Option<usize>>
     requires { left ≤ length buf.old }
     ensures brought { Brought result (length buf.old - left) }
     ensures buf_unchanged { take left buf.new ≡ take left buf.old }
@@ -109,19 +117,14 @@ fn write_waiting<W: Write>(s: State, out: &[u8], output: &mut W) -> io::Result<u
     ensures upper_bound { IfOk result (λ n. s.from + n ≤ s.at) }
     ensures gave { WriteAppends (W.contents output.old) (W.contents output.new) result (waits s out.now) }
 {
-    let from = s.from;
-    let at = s.at;
-    write_once(&out[from..at], output)
+    write_once(&out[s.from..s.at], output)
 }
 
 // An error as the system numbers it.
 fn number_of(e: i32) -> u64
     ensures { result ≡ error_of e }
 {
-    if e < 0 {
-        return 0;
-    }
-    e as u64
+    u64::try_from(e).unwrap_or(0)
 }
 
 // The number of a call's error. One that the system did not number has that of a signal (EINTR) or of a call that would have to wait (EAGAIN) if it is of that
@@ -144,7 +147,7 @@ fn comes_again(clock: &impl Clock, error: u64) -> bool
     ensures { result ≡ is_passing error }
 {
     if error == 11 {
-        pass_pause::pause(clock);
+        pause(clock);
         return true;
     }
     error == 4
@@ -156,25 +159,12 @@ fn give_up(rt: &impl Eprint, s: State, taken: usize, error: io::Error) -> State
     ensures { result ≡ given_up s }
 {
     let _ = eprintln!(rt; "passlist: write: {error}");
-    let mut t = s;
-    t.stuck = true;
-    t
-}
-
-// So many of the bytes that wait are written.
-fn sent(s: State, n: usize) -> State
-    requires { (s.from + n ≤ s.at) × (s.at ≤ 65536) × Countable s }
-    ensures { result ≡ with_written s n }
-{
-    let mut t = s;
-    t.from = s.from + n;
-    t.written = s.written + n;
-    t
+    State { stuck: true, ..s }
 }
 
 // What a write took of what waits is written; one that failed is made again, or ends the run, and so does one that took nothing.
-fn send<W: Write, S: Clock + Eprint>(rt: &S, s: State, out: &[u8], output: &mut W) -> State
-    requires { (s.from < s.at) × (s.at ≤ length out.now) × (length out.now ≡ 65536) × Countable s }
+fn send<W: Write, S: Clock + Eprint>(rt: &S, s: State, out: &[u8; LIST], output: &mut W) -> State
+    requires { (s.from < s.at) × (s.at ≤ length out.now) × Countable s }
     ensures stands { (g : Run) (b : List ℕ) → Stands s g b out.now → Stands result g b out.now }
     ensures moves { (g : Run) (b : List ℕ) (had left held : Option (List ℕ)) → Moves s g b out.now had left held (W.contents output.old)
         → Moves result g b out.now had left held (W.contents output.new) }
@@ -185,7 +175,7 @@ fn send<W: Write, S: Clock + Eprint>(rt: &S, s: State, out: &[u8], output: &mut 
             if n == 0 {
                 return give_up(rt, s, n, io::Error::from(ErrorKind::WriteZero));
             }
-            sent(s, n)
+            s.sent(n)
         }
         Err(error) => {
             if comes_again(rt, error_number(error)) {
@@ -193,57 +183,6 @@ fn send<W: Write, S: Clock + Eprint>(rt: &S, s: State, out: &[u8], output: &mut 
             }
             give_up(rt, s, 0, error)
         }
-    }
-}
-
-// Bytes came; the lines that are held are taken next.
-fn came(s: State, n: usize) -> State
-    requires { (s.left + n ≤ 262144) × Countable s }
-    ensures { result ≡ with_more s n }
-{
-    let next = Next::Turn;
-    State {
-        left: s.left + n,
-        from: s.from,
-        at: s.at,
-        next,
-        error: s.error,
-        stuck: s.stuck,
-        read: s.read + n,
-        written: s.written,
-    }
-}
-
-// The text has ended: what is held is all that is left of it.
-fn at_end(s: State) -> State
-    ensures { result ≡ with_end s }
-{
-    let next = Next::Close;
-    State {
-        left: s.left,
-        from: s.from,
-        at: s.at,
-        next,
-        error: s.error,
-        stuck: s.stuck,
-        read: s.read,
-        written: s.written,
-    }
-}
-
-// The list's last bytes, `at` of them, wait: nothing comes after them.
-pub fn closing(s: State, at: usize, next: Next, error: u64) -> State
-    ensures { result ≡ with_last s at next error }
-{
-    State {
-        left: 0,
-        from: 0,
-        at,
-        next,
-        error,
-        stuck: s.stuck,
-        read: s.read,
-        written: s.written,
     }
 }
 
@@ -261,31 +200,29 @@ fn at_failure<S: Clock + Eprint>(rt: &S, s: State, out: &mut [u8], failure: io::
         return s;
     }
     let _ = eprintln!(rt; "passlist: read: {failure}");
-    let n = pass_writer::lines::failure_line(out, 0, error);
-    let next = Next::Failed;
-    closing(s, n, next, error)
+    let n = failure_line(out, 0, error);
+    s.closing(n, Next::Failed, error)
 }
 
 // More of the text, behind what is held.
+// Not one struct for what is lent: its methods would have to promise of each field besides that it still lends the same memory, reader or writer.
 fn fetch<R: Read, S: Clock + Eprint>(
     rt: &S,
     s: State,
-    buf: &mut [u8],
-    out: &mut [u8],
+    buf: &mut [u8; TEXT],
+    out: &mut [u8; LIST],
     input: &mut R,
 ) -> State
-    requires { Asking s buf.old out.old × Sizes buf.old out.old × Countable s }
+    requires { Asking s buf.old out.old × Countable s }
     ensures stands { (g : Run) → Stands s g buf.old out.old → Stands result g buf.new out.new }
     ensures moves { (g : Run) (had held holds : Option (List ℕ)) → Moves s g buf.old out.old had (R.remaining input.old) held holds
         → Moves result g buf.new out.new had (R.remaining input.new) held holds }
     ensures counted { Counted s result }
 {
-    let left = s.left;
-    let got = read_behind(buf, left, input);
-    match got {
-        Got::Bytes(n) => came(s, n),
-        Got::End => at_end(s),
-        Got::Failed(failure) => at_failure(rt, s, out, failure),
+    match read_behind(buf, s.left, input) {
+        Ok(Some(n)) => s.came(n),
+        Ok(None) => s.at_end(),
+        Err(failure) => at_failure(rt, s, out, failure),
     }
 }
 
@@ -293,91 +230,103 @@ fn fetch<R: Read, S: Clock + Eprint>(
 pub fn step<R: Read, W: Write, S: Clock + Eprint>(
     rt: &S,
     s: State,
-    buf: &mut [u8],
-    out: &mut [u8],
+    buf: &mut [u8; TEXT],
+    out: &mut [u8; LIST],
     input: &mut R,
     output: &mut W,
 ) -> State
-    requires { Placed s buf.old out.old × Sizes buf.old out.old × Countable s }
+    requires { Placed s buf.old out.old × Countable s }
     ensures stands { (g : Run) → Stands s g buf.old out.old → Stands result g buf.new out.new }
     ensures moves { (g : Run) (had held : Option (List ℕ)) → Moves s g buf.old out.old had (R.remaining input.old) held (W.contents output.old)
         → Moves result g buf.new out.new had (R.remaining input.new) held (W.contents output.new) }
     ensures counted { Counted s result }
 {
-    let from = s.from;
-    let at = s.at;
-    if from < at {
+    if s.from < s.at {
         return send(rt, s, out, output);
     }
-    let next = s.next;
-    if let Next::Read = next {
-        return fetch(rt, s, buf, out, input);
-    }
-    s
-}
-
-fn is_last(n: Next) -> bool
-    ensures { result ≡ is_last n }
-{
-    match n {
-        Next::Read => false,
-        Next::Turn => false,
-        Next::Close => false,
-        Next::Refused => true,
-        Next::Ended => true,
-        Next::Failed => true,
+    match s.next {
+        Next::Read => fetch(rt, s, buf, out, input),
+        _ => s,
     }
 }
 
-pub fn is_over(s: State) -> bool
-    ensures { result ≡ is_over s }
-{
-    if s.stuck {
-        return true;
+impl State {
+    // So many of the bytes that wait are written.
+    fn sent(self, n: usize) -> State
+        requires { (self.from + n ≤ self.at) × (self.at ≤ 65536) × Countable self }
+        ensures { result ≡ with_written self n }
+    {
+        State {
+            from: self.from + n,
+            written: self.written + n,
+            ..self
+        }
     }
-    if s.from < s.at {
-        return false;
-    }
-    let next = s.next;
-    is_last(next)
-}
 
-fn is_held(n: Next) -> bool
-    ensures { result ≡ is_held n }
-{
-    match n {
-        Next::Read => false,
-        Next::Turn => true,
-        Next::Close => true,
-        Next::Refused => false,
-        Next::Ended => false,
-        Next::Failed => false,
+    // Bytes came; the lines that are held are taken next.
+    fn came(self, n: usize) -> State
+        requires { (self.left + n ≤ 262144) × Countable self }
+        ensures { result ≡ with_more self n }
+    {
+        State {
+            left: self.left + n,
+            next: Next::Turn,
+            read: self.read + n,
+            ..self
+        }
     }
-}
 
-// Whether it is the pass's turn: all that was made is written, and what is held is to be taken.
-pub fn is_due(s: State) -> bool
-    ensures { result ≡ is_due s }
-{
-    if s.from < s.at {
-        return false;
+    // The text has ended: what is held is all that is left of it.
+    fn at_end(self) -> State
+        ensures { result ≡ with_end self }
+    {
+        State {
+            next: Next::Close,
+            ..self
+        }
     }
-    let next = s.next;
-    is_held(next)
-}
 
-pub fn account_of(s: State, turns: u64) -> Account
-    requires { s.from ≤ s.at }
-    ensures { result ≡ account_of s turns }
-{
-    let next = s.next;
-    Account {
-        read: s.read,
-        written: s.written,
-        unsent: s.at - s.from,
-        next,
-        error: s.error,
-        stuck: s.stuck,
-        turns,
+    // The list's last bytes, `at` of them, wait: nothing comes after them.
+    pub fn closing(self, at: usize, next: Next, error: u64) -> State
+        ensures { result ≡ with_last self at next error }
+    {
+        State {
+            left: 0,
+            from: 0,
+            at,
+            next,
+            error,
+            ..self
+        }
+    }
+
+    // Whether the run is over: a write failed, or all is written and nothing comes next.
+    pub fn is_over(self) -> bool
+        ensures { result ≡ is_over self }
+    {
+        self.stuck || self.at <= self.from && self.next.is_last()
+    }
+
+    // Whether it is the pass's turn: all that was made is written, and what is held is to be taken.
+    pub fn is_due(self) -> bool
+        ensures { result ≡ is_due self }
+    {
+        self.at <= self.from && self.next.is_held()
+    }
+
+    // What a run that stands here answers for.
+    pub fn account(self, turns: u64) -> Account
+        requires { self.from ≤ self.at }
+        ensures { result ≡ account_of self turns }
+    {
+        Account {
+            read: self.read,
+            written: self.written,
+            unsent: self.at - self.from,
+            next: self.next,
+            error: self.error,
+            stuck: self.stuck,
+            turns,
+        }
     }
 }

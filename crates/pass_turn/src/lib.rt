@@ -8,8 +8,12 @@ ghost use Rattle.pass_setup.specs.Listing.{list_after};
 ghost use Rattle.pass_transfer.specs.Code.Standing.{onward, NoLine};
 ghost use Rattle.pass_turn.specs.Code.Turning.{Buffers, TooLong, Within, Begun, Finished, Turned, GetsOn};
 
+use pass_session::run::run;
+use pass_setup::ending::finish;
 use pass_setup::pass::Pass;
+use pass_stream::carry;
 use pass_transfer::Next;
+use pass_writer::lines::{has_room, names_line};
 
 // The pass, the `left` bytes of the text that are held at the front of the text's buffer, the `at` bytes at the front of the list's buffer that are to be
 // written, and what comes then.
@@ -27,14 +31,12 @@ pub fn begin(out: &mut [u8]) -> Flow
     ensures left_value { (result.left ≡ 0) × (result.at ≤ length out.new) × (result.next ≡ Next.Read) }
     ensures begun { Begun result.pass (take result.at out.new) }
 {
-    let at = pass_writer::lines::names_line(out, 0);
-    let pass = pass_setup::pass::new_pass();
-    let next = Next::Read;
+    let at = names_line(out, 0);
     Flow {
-        pass,
+        pass: Pass::new(),
         left: 0,
         at,
-        next,
+        next: Next::Read,
     }
 }
 
@@ -44,8 +46,7 @@ pub fn end(p: Pass, held: &[u8], out: &mut [u8]) -> usize
     ensures upper_bound { result ≤ length out.new }
     ensures finished { Finished p held.now (take result out.new) }
 {
-    let j = pass_setup::ending::finish(p, held, out, 0);
-    j.at
+    finish(p, held, out, 0).at
 }
 
 // A line that is longer than the buffer is outside the form, whatever follows. Answers the place after its refusal.
@@ -54,8 +55,7 @@ fn too_long(p: Pass, left: usize, at: usize, buf: &[u8], out: &mut [u8]) -> usiz
     ensures upper_bound { result ≤ length out.new }
     ensures more_value { (w : List Float) (more : List ℕ) → take at out.old ++ list_after (onward p w) (take left buf.now ++ more) ≡ take result out.new }
 {
-    let j = pass_setup::ending::finish(p, &buf[..left], out, at);
-    j.at
+    finish(p, &buf[..left], out, at).at
 }
 
 // The whole lines that are held, as far as there is room for what they add to the list; what is left of the text goes to the buffer's front.
@@ -65,45 +65,38 @@ pub fn turn(p: Pass, left: usize, buf: &mut [u8], windows: &mut [f64], out: &mut
     ensures turned { Turned result.next (onward p windows.old) (take left buf.old) (take result.at out.new) (onward result.pass windows.new) (take result.left buf.new) }
     ensures gets_on { GetsOn result.next left result.left buf.new }
 {
-    let r = pass_session::run::run(p, &buf[..left], windows, out, 0);
+    let r = run(p, &buf[..left], windows, out, 0);
     let pass = r.pass;
     let at = r.at;
-    let used = r.used;
-    let stage = pass.stage;
-    if pass_setup::ending::is_stopped(stage) {
-        let next = Next::Refused;
+    if pass.stage.is_stopped() {
         return Flow {
             pass,
             left: 0,
             at,
-            next,
+            next: Next::Refused,
         };
     }
-    let rest = pass_stream::carry(buf, used, left);
-    if !pass_writer::lines::has_room(out.len(), at) {
-        let next = Next::Turn;
+    let rest = carry(buf, r.used, left);
+    if !has_room(out.len(), at) {
         return Flow {
             pass,
             left: rest,
             at,
-            next,
+            next: Next::Turn,
         };
     }
     if rest == buf.len() {
-        let last = too_long(pass, rest, at, buf, out);
-        let next = Next::Refused;
         return Flow {
             pass,
             left: 0,
-            at: last,
-            next,
+            at: too_long(pass, rest, at, buf, out),
+            next: Next::Refused,
         };
     }
-    let next = Next::Read;
     Flow {
         pass,
         left: rest,
         at,
-        next,
+        next: Next::Read,
     }
 }

@@ -1,15 +1,15 @@
 -- Laws of digits: how many there are, and that as many of them as a decimal number has write it.
-use mathlib.Core.Path.{◌≡◌, refl, ◌∙◌}
+use mathlib.Core.Path.{◌≡◌, refl, sym, ◌∙◌}
 use mathlib.Core.Bool.{Bool, true, false, cond}
 use mathlib.Core.List.{[], ◌∷◌, ◌++◌}
-use Prim.Native.Nat.{ℕ, zero, suc, ◌+◌, ◌-◌, ◌*◌, ◌/◌, ◌%◌, ◌^◌, ◌≤◌, ◌<◌}
+use Prim.Native.Nat.{ℕ, zero, suc, ◌+◌, ◌-◌, ◌*◌, ◌/◌, ◌%◌, ◌^◌, ◌≤◌, ◌<◌, max}
 use native.Mathlib.Numerals.{add-one}
-use native.Mathlib.Nat.{pow-suc, div-lt_iff_lt-mul}
+use native.Mathlib.Nat.{pow-suc, le-div_iff_mul-le, div-lt_iff_lt-mul}
 use native.Mathlib.Omega.{arith}
 use lib.Dec.{ltb}
 use lib.ListN.{length, length-append}
 use lib.Ieee.{Float, binary64, to_bits}
-use borrow.Author.Tests.{lt-ltb, le-ltb, ltb-true, ltb-false}
+use borrow.Author.Tests.{lt-ltb, le-ltb, ltb-true}
 use Rattle.pass_writer.specs.Digits.{glyph_of, digits, decimal_from, decimal_text, float_text}
 
 pub length_digits : (base k n : ℕ) → length (digits base k n) ≡ k
@@ -27,9 +27,9 @@ pub decimal_glyph : (d : ℕ) → d < 10 → 48 + d ≡ glyph_of d
 unfolding glyph_of
 decimal_glyph d h = rw (lt-ltb d 10 h)
 
-pub letter_glyph : (d : ℕ) → 10 ≤ d → 87 + d ≡ glyph_of d
+pub letter_glyph : (d : ℕ) → 10 ≤ d → 97 + (d - 10) ≡ glyph_of d
 unfolding glyph_of
-letter_glyph d h = rw (le-ltb d 10 h) (omega arith)
+letter_glyph d h = rw (le-ltb d 10 h)
 
 -- as many digits as a decimal number has
 digits_decimal : (k n : ℕ) → digits 10 (length (decimal_from k n)) n ≡ decimal_from k n
@@ -56,44 +56,30 @@ length_more : (k n : ℕ) → 10 ≤ n → length (decimal_from (suc k) n) ≡ l
 unfolding decimal_from
 length_more k n h = rw (le-ltb n 10 h) (length-append (decimal_from k (n / 10)) (glyph_of (n % 10) ∷ []))
 
--- k - 1 digits have been counted, and `left` are the digits that are still to be counted, at least one
-pub record Counting (n left k : ℕ) : Type 0 where
-  pub low : 1 ≤ k
-  pub high : k ≤ 20
-  pub below : left < 10 ^ (21 - k)
-  pub so_far : length (decimal_text n) + 1 ≡ k + length (decimal_from (21 - k) left)
+power_above : (k : ℕ) → 0 < 10 ^ k
+power_above zero = omega arith
+power_above (suc k) = let h = power_above k in rw pow-suc (omega arith)
 
-pub counting_starts : (n : ℕ) → n < 2 ^ 64 → Counting n n 1
+length_power : (m k n : ℕ) → k < m → 10 ^ k ≤ n → n < 10 * 10 ^ k → k + 1 ≡ length (decimal_from m n)
+length_power zero k n m a b = absurd (omega arith)
+length_power (suc m) zero n h a b = sym (length_last m n (omega arith))
+length_power (suc m) (suc k) n h a b =
+    let p : 0 < 10 ^ k = power_above k in
+    let c : 10 ^ k * 10 ≤ n = rw pow-suc at a in
+    let d : n < 10 * (10 ^ k * 10) = rw pow-suc at b in
+    let e = length_power m k (n / 10) (omega arith) ((le-div_iff_mul-le {k = 10} {x = 10 ^ k} {y = n} (omega arith)).1 c)
+    ((div-lt_iff_lt-mul {k = 10} {x = n} {y = 10 * 10 ^ k} (omega arith)).1 (omega arith)) in
+    let f = length_more m n (omega arith) in
+    omega arith
+
+pub digits_counted : (n k : ℕ) → k < 20 → 10 ^ k ≤ max n 1 → max n 1 < 10 * 10 ^ k → k + 1 ≡ length (decimal_text n)
 unfolding decimal_text
-counting_starts n h = record { low = omega arith; high = omega arith; below = omega arith; so_far = omega arith }
-
-module _ (n left k : ℕ) (c : Counting n left k) where
-  few : 10 ≤ left → k ≤ 19
-  few h = go (ltb k 20) refl
-    where
-      go : (b : Bool) → ltb k 20 ≡ b → k ≤ 19
-      go true e = let l : k < 20 = ltb-true _ _ e in omega arith
-      go false e = absurd (let l = c.high in let g : 20 ≤ k = ltb-false _ _ e in let z : 21 - k ≡ 1 = omega arith in let b : left < 10 ^ 1 = rw z at c.below in omega arith)
-
-  pub counting_goes_on : 10 ≤ left → Counting n (left / 10) (k + 1)
-  counting_goes_on h =
-      let f = few h in
-      let l = c.low in
-      let z : 21 - k ≡ suc (21 - (k + 1)) = omega arith in
-      let b : left < 10 ^ (21 - (k + 1)) * 10 = (let w : left < 10 ^ suc (21 - (k + 1)) = rw z at c.below in rw pow-suc at w) in
-      let s : length (decimal_text n) + 1 ≡ k + length (decimal_from (suc (21 - (k + 1))) left) = rw z at c.so_far in
-      let m = length_more (21 - (k + 1)) left h in
-      record {
-        low = omega arith;
-        high = omega arith;
-        below = (div-lt_iff_lt-mul {k = 10} {x = left} {y = 10 ^ (21 - (k + 1))} (omega arith)).1 b;
-        so_far = omega arith;
-      }
-
-  pub counting_ends : left < 10 → (k ≡ length (decimal_text n)) × (k ≤ 20)
-  counting_ends h =
-      let l = c.high in
-      let z : 21 - k ≡ suc (20 - k) = omega arith in
-      let s : length (decimal_text n) + 1 ≡ k + length (decimal_from (suc (20 - k)) left) = rw z at c.so_far in
-      let m = length_last (20 - k) left h in
-      (omega arith, l)
+digits_counted zero k h a b = go k h a b
+  where
+    go : (k : ℕ) → k < 20 → 10 ^ k ≤ 1 → 1 < 10 * 10 ^ k → k + 1 ≡ length (decimal_from 20 0)
+    go zero h a b = sym (length_last 19 0 (omega arith))
+    go (suc k) h a b =
+        let p : 0 < 10 ^ k = power_above k in
+        let c : 10 ^ k * 10 ≤ 1 = rw pow-suc at a in
+        absurd (omega arith)
+digits_counted (suc n) k h a b = let m : max (suc n) 1 ≡ suc n = omega arith in length_power 20 k (suc n) h (rw m at a) (rw m at b)

@@ -1,6 +1,7 @@
 -- Laws of texts laid over a buffer.
 use mathlib.Core.Path.{◌≡◌, refl, ap, sym, ◌∙◌}
-use mathlib.Core.Bool.{Bool, true, false}
+use mathlib.Core.Bool.{Bool, true, false, cond}
+use mir.Val.{bool_byte}
 use mathlib.Core.List.{List, [], ◌∷◌, ◌++◌, append_assoc, append-nil}
 use Prim.Native.Nat.{ℕ, suc, ◌+◌, ◌-◌, ◌/◌, ◌%◌, ◌≤◌, ◌<◌}
 use native.Mathlib.Numerals.{add-one}
@@ -9,7 +10,9 @@ use native.Mathlib.Omega.{arith}
 use lib.Dec.{leb}
 use lib.ListN.{length, take, drop, set, length-append, take-append-drop}
 use lib.Seq.{paste, take-length, length-take-le, take_at, drop-append-add, drop-drop, set_split, take-set-le, drop_at, append_snoc}
-use borrow.Author.Tests.{le-leb, lt-leb, leb-true, leb-false}
+use borrow.Rule.Slice.PartMut.{put_mid}
+use Rattle.std.proofs.lemmas.Slice.{put_mid-paste}
+use borrow.Author.Tests.{le-leb}
 use Rattle.pass_writer.specs.Digits.{glyph_of, digits}
 use Rattle.pass_writer.specs.Lines.{line_of}
 use Rattle.pass_writer.specs.Code.Buffers.{laid, longest, written, Wrote}
@@ -22,6 +25,10 @@ laid_nothing at l = sym (rw (append-nil, add-zero) (take-append-drop at l))
 pub laid_paste : (at : ℕ) (text l : List ℕ) → paste l at text (length text) ≡ laid at text l
 unfolding laid
 laid_paste at text l = rw take-length
+
+-- after `l[at..end].copy_from_slice(text)`
+pub laid_copy : (at end : ℕ) (text l new : List ℕ) → end ≡ at + length text → new ≡ text → put_mid at (end - at) l new ≡ laid at text l
+laid_copy at end text l new e h = put_mid-paste at (end - at) l new text (length text) h (omega arith) refl ∙ laid_paste at text l
 
 pub laid_one : (at b : ℕ) (l : List ℕ) → at < length l → set l at b ≡ laid at (b ∷ []) l
 unfolding laid
@@ -84,17 +91,6 @@ pub no_room : (at : ℕ) (text l : List ℕ) → leb (at + longest) (length l) �
 unfolding written
 no_room at text l e = rw e
 
--- the test for room, by a subtraction that cannot wrap
-pub room_none : (at n : ℕ) → n < longest → false ≡ leb (at + longest) n
-room_none at n h = sym (lt-leb (at + longest) n (omega arith))
-
-pub room_test : (at n : ℕ) → longest ≤ n → leb at (n - longest) ≡ leb (at + longest) n
-room_test at n h = go (leb at (n - longest)) refl
-  where
-    go : (b : Bool) → leb at (n - longest) ≡ b → b ≡ leb (at + longest) n
-    go true e = let l : at ≤ n - longest = leb-true _ _ e in sym (le-leb (at + longest) n (omega arith))
-    go false e = let l : n - longest < at = leb-false _ _ e in sym (lt-leb (at + longest) n (omega arith))
-
 pub wrote_as : {at r : ℕ} {a l f : List ℕ} (b : List ℕ) → a ≡ b → Wrote at a l r f → Wrote at b l r f
 wrote_as b e w = rw (← e) w
 
@@ -112,3 +108,8 @@ pub joined_seven : (a b c d e f g : List ℕ)
     ≡ line_of a (b ∷ c ∷ d ∷ e ∷ f ∷ g ∷ [])
 unfolding line_of
 joined_seven a b c d e f g = simp append_assoc
+
+-- a switch as a number
+pub bit_is : (b : Bool) → bool_byte b ≡ cond b 1 0
+bit_is true = refl
+bit_is false = refl

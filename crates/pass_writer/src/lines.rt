@@ -1,7 +1,9 @@
 // The lines of the list.
-ghost use Rattle.std.specs.Prelude.{cond, ◌≡◌, ◌+◌, ◌≤◌, leb, length};
+ghost use Rattle.std.specs.Prelude.{◌≡◌, ◌+◌, ◌≤◌, leb, length};
 ghost use Rattle.pass_writer.specs.Lines.{names_text, block_text, refusal_text, failure_text};
 ghost use Rattle.pass_writer.specs.Code.Buffers.{longest, written, Wrote};
+
+use crate::digits::{put_float, put_number};
 
 // What the list shows of a block's answer.
 #[derive(Clone, Copy)]
@@ -18,43 +20,31 @@ pub struct Shown {
 pub fn has_room(length: usize, at: usize) -> bool
     ensures { result ≡ leb (at + longest) length }
 {
-    if length < 135 {
-        return false;
-    }
-    at <= length - 135
+    135 <= length && at <= length - 135
 }
 
 // Lays s over out from `at` on, and answers the place after it.
+// Not a cursor that holds `out` and `at`: each method would have to promise besides that it still lends the same buffer, and the callers keep `at` between two calls.
 fn put_bytes(out: &mut [u8], at: usize, s: &[u8]) -> usize
     requires { at + length s.now ≤ length out.old }
     ensures { Wrote at s.now out.old result out.new }
 {
-    let mut i = 0;
-    while i < s.len() {
-        out[at + i] = s[i];
-        i += 1;
-    }
-    at + i
-}
-
-fn bit_of(b: bool) -> u64
-    ensures { result ≡ cond b 1 0 }
-{
-    if b { 1 } else { 0 }
+    let end = at + s.len();
+    out[at..end].copy_from_slice(s);
+    end
 }
 
 fn put_block(out: &mut [u8], at: usize, count: u64, a: Shown) -> usize
     requires { at + 135 ≤ length out.old }
     ensures { Wrote at (block_text count a) out.old result out.new }
 {
-    let p1 = crate::digits::put_number(out, at, count, 32);
-    let locked = bit_of(a.locked);
-    let p2 = crate::digits::put_number(out, p1, locked, 32);
-    let p3 = crate::digits::put_number(out, p2, a.tracker, 32);
-    let p4 = crate::digits::put_number(out, p3, a.fade, 32);
-    let p5 = crate::digits::put_float(out, p4, a.phase, 32);
-    let p6 = crate::digits::put_float(out, p5, a.frequency, 32);
-    crate::digits::put_float(out, p6, a.snr, 10)
+    let p1 = put_number(out, at, count, b' ');
+    let p2 = put_number(out, p1, u64::from(a.locked), b' ');
+    let p3 = put_number(out, p2, a.tracker, b' ');
+    let p4 = put_number(out, p3, a.fade, b' ');
+    let p5 = put_float(out, p4, a.phase, b' ');
+    let p6 = put_float(out, p5, a.frequency, b' ');
+    put_float(out, p6, a.snr, b'\n')
 }
 
 fn put_refusal(out: &mut [u8], at: usize, line: u64, number: u64) -> usize
@@ -62,8 +52,8 @@ fn put_refusal(out: &mut [u8], at: usize, line: u64, number: u64) -> usize
     ensures { Wrote at (refusal_text line number) out.old result out.new }
 {
     let p1 = put_bytes(out, at, b"refused ");
-    let p2 = crate::digits::put_number(out, p1, line, 32);
-    crate::digits::put_number(out, p2, number, 10)
+    let p2 = put_number(out, p1, line, b' ');
+    put_number(out, p2, number, b'\n')
 }
 
 fn put_failure(out: &mut [u8], at: usize, error: u64) -> usize
@@ -71,7 +61,7 @@ fn put_failure(out: &mut [u8], at: usize, error: u64) -> usize
     ensures { Wrote at (failure_text error) out.old result out.new }
 {
     let p1 = put_bytes(out, at, b"failed ");
-    crate::digits::put_number(out, p1, error, 10)
+    put_number(out, p1, error, b'\n')
 }
 
 // The line of names, which is always first. Every line is written from `at` on, and the answer is the place after it.

@@ -1,3 +1,4 @@
--- The laws by which loops meet the definitions.
+-- Laws of sums, of tables, and of lists of the program's numbers.
 pub mod Adding
 pub mod Tables
+pub mod Numbers

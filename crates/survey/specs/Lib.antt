@@ -1,2 +1,2 @@
 pub mod Survey
-pub mod Code
+pub mod Flags

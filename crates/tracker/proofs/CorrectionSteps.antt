@@ -84,11 +84,6 @@ module _ (t : CarrierPllEkf) (p : List Float) (i : ℕ) (m : Measured) (pr s : F
       ∙ (λ j. corrected_or_lost t p i m.r_effective (ek j) (ey j) (Kept m.norm_re (h1 j)))
       ∙ sym (cond_yes _ _ (sym (h3 ∙ ap takes_gain h2) ∙ h4))
 
-  pub without_gain : Answered → g ≡ false → ◌≡◌ {A = Corrected} (record { ekf = t; p = p; answer = Kept m.norm_re pr }) (gained t p i m)
-  unfolding gained
-  without_gain (h1, h2, h3) h4 =
-      (λ j. record { ekf = t; p = p; answer = Kept m.norm_re (h1 j) }) ∙ sym (cond_no _ _ (sym (h3 ∙ ap takes_gain h2) ∙ h4))
-
 -- all of it: v is what was known before the sample, m what the sample says, u and w₁ the tracker and the window with it in them
 pub band_is : (t : CarrierPllEkf) (p w : List Float) (band : Band) (re im : Float) (v : Prior) (m : Measured) (u : CarrierPllEkf) (w₁ : List Float) (r : Corrected)
     → v ≡ prior_of t (phase_of band) → m ≡ measured v re im

@@ -1,10 +1,9 @@
 -- An update for one frequency or two, from the first channel's correction and by its answer.
-use mathlib.Core.Path.{◌≡◌, sym, ◌∙◌}
-use mathlib.Core.Bool.{Bool, true, false, cond}
+use mathlib.Core.Path.{◌≡◌, sym, subst}
 use mathlib.Core.List.{List}
 use lib.Ieee.{Float}
+use Rattle.std.specs.Prelude.{Option, Some, None, MatchOption}
 use Rattle.tracker_covariance.specs.declared.states.Band.TheVariants.{First}
-use Rattle.sequences.proofs.Choices.{cond_yes, cond_no}
 use Rattle.tracker.specs.declared.state.CarrierPllEkf.{CarrierPllEkf}
 use Rattle.tracker.specs.declared.state.Tracked.{Tracked}
 use Rattle.tracker.specs.declared.correction.Correction.TheVariants.{Kept, Lost}
@@ -15,19 +14,17 @@ use Rattle.tracker.specs.Update.{tracked, updated, second_corrected, updated_dua
 use Rattle.tracker.proofs.UpdateSteps.{update_lost, update_kept, dual_lost, dual_kept}
 
 -- d is the correction and w₁ the window that it left
-module _ (t : CarrierPllEkf) (p w : List Float) (two : Bool) (re1 im1 re2 im2 : Float) (d : Corrected) (w₁ : List Float) (h : (d, w₁) ≡ band_corrected t p w First re1 im1) where
-  abbrev Either : Tracked × List Float
-  Either = cond two (updated_dual t p w re1 im1 re2 im2) (updated t p w re1 im1)
+module _ (t : CarrierPllEkf) (p w : List Float) (re1 im1 : Float) (d : Corrected) (w₁ : List Float) (h : (d, w₁) ≡ band_corrected t p w First re1 im1) where
+  abbrev Either : Tracked → Option (Float × Float) → Type 0
+  Either r o = MatchOption o ((r, w₁) ≡ updated t p w re1 im1) (λ s. (r, w₁) ≡ updated_dual t p w re1 im1 s.0 s.1)
 
-  pub lost_is : d.answer ≡ Lost → (tracked d.ekf d.p, w₁) ≡ Either
-  lost_is a = go two
-    where
-      go : (b : Bool) → (tracked d.ekf d.p, w₁) ≡ cond b (updated_dual t p w re1 im1 re2 im2) (updated t p w re1 im1)
-      go true = dual_lost t p w d w₁ re1 im1 re2 im2 h a
-      go false = update_lost t p w d w₁ re1 im1 h a
+  pub lost_is : (o : Option (Float × Float)) → d.answer ≡ Lost → Either (tracked d.ekf d.p) o
+  lost_is None a = update_lost t p w d w₁ re1 im1 h a
+  lost_is (Some s) a = dual_lost t p w d w₁ re1 im1 s.0 s.1 h a
 
-  pub two_is : (n pr : Float) (r : Tracked) → d.answer ≡ Kept n pr → two ≡ true → (r, w₁) ≡ second_corrected d.ekf d.p w₁ n pr re2 im2 → (r, w₁) ≡ Either
-  two_is n pr r a b e = dual_kept t p w d w₁ re1 im1 re2 im2 n pr (r, w₁) h a e ∙ sym (cond_yes _ _ b)
+  pub two_is : (o : Option (Float × Float)) (s : Float × Float) (n pr : Float) (r : Tracked) → o ≡ Some s → d.answer ≡ Kept n pr
+      → (r, w₁) ≡ second_corrected d.ekf d.p w₁ n pr s.0 s.1 → Either r o
+  two_is o s n pr r q a e = subst (Either r) (sym q) (dual_kept t p w d w₁ re1 im1 s.0 s.1 n pr (r, w₁) h a e)
 
-  pub one_is : (n pr : Float) (u : CarrierPllEkf) → d.answer ≡ Kept n pr → two ≡ false → u ≡ settled d.ekf n pr → (tracked u d.p, w₁) ≡ Either
-  one_is n pr u a b e = update_kept t p w d w₁ re1 im1 n pr u h a e ∙ sym (cond_no _ _ b)
+  pub one_is : (o : Option (Float × Float)) (n pr : Float) (u : CarrierPllEkf) → o ≡ None → d.answer ≡ Kept n pr → u ≡ settled d.ekf n pr → Either (tracked u d.p) o
+  one_is o n pr u q a e = subst (Either (tracked u d.p)) (sym q) (update_kept t p w d w₁ re1 im1 n pr u h a e)

@@ -1,7 +1,7 @@
 -- What `settle` makes of the guard and the mark, in each case of its tests.
 use Prim.Native.Nat.{◌-◌, ◌<◌, ◌≤◌}
-use mathlib.Core.Path.{◌≡◌, sym, ap, ◌∙◌}
-use mathlib.Core.Bool.{Bool, true, false, not, ◌&&◌, and-true, and-false}
+use mathlib.Core.Path.{◌≡◌, refl, sym, ap, ◌∙◌}
+use mathlib.Core.Bool.{Bool, true, false, not, ◌&&◌}
 use lib.Ieee.{Float}
 use borrow.Author.Tests.{lt-ltb, le-ltb}
 use Rattle.sequences.proofs.Choices.{cond_yes, cond_no}
@@ -24,14 +24,15 @@ module _ (t : CarrierPllEkf) (n pr : Float) where
   at_zero u l e =
       ap (λ (b : Bool). with_lock t metric (t.is_locked && not b) t.convergence_guard) e ∙ sym (cond_no _ _ (le-ltb _ _ l))
 
-  pub unlocked : (u : Bool) → t.convergence_guard ≤ 0 → u ≡ unlocks t.tuning.dual_lock metric pr → u ≡ true
-      → with_lock t metric false t.convergence_guard ≡ settled t n pr
-  unlocked u l e h =
-      ap (λ (b : Bool). with_lock t metric b t.convergence_guard) (sym (ap (λ (b : Bool). t.is_locked && not b) h ∙ and-false t.is_locked))
+  -- b is the mark after it
+  pub when_locked : (b u : Bool) → t.convergence_guard ≤ 0 → t.is_locked ≡ true → u ≡ unlocks t.tuning.dual_lock metric pr → b ≡ not u
+      → with_lock t metric b t.convergence_guard ≡ settled t n pr
+  when_locked b u l k e r =
+      ap (λ (a : Bool). with_lock t metric a t.convergence_guard) (r ∙ sym (ap (λ (a : Bool). a && not u) k))
       ∙ at_zero u l e
 
-  pub unchanged : (u : Bool) → t.convergence_guard ≤ 0 → u ≡ unlocks t.tuning.dual_lock metric pr → u ≡ false
-      → with_lock t metric t.is_locked t.convergence_guard ≡ settled t n pr
-  unchanged u l e h =
-      ap (λ (b : Bool). with_lock t metric b t.convergence_guard) (sym (ap (λ (b : Bool). t.is_locked && not b) h ∙ and-true t.is_locked))
-      ∙ at_zero u l e
+  pub when_open : (b : Bool) → t.convergence_guard ≤ 0 → t.is_locked ≡ false → b ≡ t.is_locked → with_lock t metric b t.convergence_guard ≡ settled t n pr
+  when_open b l k r =
+      let u = unlocks t.tuning.dual_lock metric pr in
+      ap (λ (a : Bool). with_lock t metric a t.convergence_guard) (r ∙ k ∙ sym (ap (λ (a : Bool). a && not u) k))
+      ∙ at_zero u l refl

@@ -88,7 +88,7 @@ module _ (n pr a b c e : Float) where
       go true = corrected_alike t p i noise k y
       go false = refl
 
-gained_moved : (t : CarrierPllEkf) (p : List Float) (i : ℕ) (m : Measured)
+pub gained_moved : (t : CarrierPllEkf) (p : List Float) (i : ℕ) (m : Measured)
     → moved t p i m.z m.r_effective (Kept m.norm_re (ratio t.power.sum_abs_i t.power.sum_q_sq)) ≡ gained t p i m
 unfolding gained moved
 gained_moved t p i m = refl

@@ -1,5 +1,6 @@
 // The steps of a correction by one sample that are the same on both frequencies, and what a correction answers.
-ghost use Rattle.std.specs.Prelude.{◌≡◌, length};
+ghost use Rattle.std.specs.Prelude.{◌≡◌, length, is_nan};
+ghost use Rattle.std.specs.List.{list_any};
 ghost use Rattle.tracker_covariance.specs.declared.states.Band.TheVariants.{First};
 ghost use Rattle.tracker_covariance.specs.States.{phase_of};
 ghost use Rattle.tracker.specs.State.{lost_tracker};
@@ -7,12 +8,12 @@ ghost use Rattle.tracker.specs.Correction.{prior_of, any_nan, wrapped_phase, lim
 
 use crate::state::CarrierPllEkf;
 use ieee754::order::clamp;
-use tracker_covariance::states::{Band, phase_index};
+use tracker_covariance::states::Band;
 use tracker_measurement::measure::Prior;
 use tracker_measurement::modulation::{Modulation, wrap};
 use tracker_power_ratio::push;
 
-// What a correction answers: the in-phase value and the power ratio, or that the tracker was lost.
+// What a correction answers: the in-phase value and the power ratio, or that the tracker was lost. Not an Option of a pair: the scope names the two cases.
 #[derive(Clone, Copy)]
 pub enum Correction {
     Kept(f64, f64),
@@ -31,37 +32,36 @@ pub struct Corrected {
 pub fn prior_of(t: CarrierPllEkf, band: Band) -> Prior
     ensures { result ≡ prior_of t (phase_of band) }
 {
-    let x = t.x;
-    let m = t.modulation;
-    let i = phase_index(band);
+    let i = band.phase_index();
     Prior {
-        modulation: m,
-        theta_pred: x[i],
+        modulation: t.modulation,
+        theta_pred: t.x[i],
         lock_metric: t.lock_metric,
         r_meas: t.tuning.r_meas,
         envelope_ema: t.envelope_ema,
     }
 }
 
+// Apart from `has_nan`, since the check follows the chain only where its own clause is the test of a list.
+fn contains_nan(x: &[f64]) -> bool
+    ensures { result ≡ list_any is_nan x.now }
+{
+    x.iter().any(|v| v.is_nan())
+}
+
 pub fn has_nan(x: [f64; 6]) -> bool
     ensures { result ≡ any_nan x }
 {
-    (x[0] != x[0])
-        | (x[1] != x[1])
-        | (x[2] != x[2])
-        | (x[3] != x[3])
-        | (x[4] != x[4])
-        | (x[5] != x[5])
+    contains_nan(&x)
 }
 
 // The channel's phase wrapped.
 pub fn wrap_phase(x: [f64; 6], band: Band, m: Modulation) -> [f64; 6]
     ensures { result ≡ wrapped_phase x (phase_of band) m }
 {
-    let i = phase_index(band);
-    let v = wrap(m, x[i]);
+    let i = band.phase_index();
     let mut y = x;
-    y[i] = v;
+    y[i] = wrap(m, x[i]);
     y
 }
 
@@ -69,7 +69,7 @@ pub fn wrap_phase(x: [f64; 6], band: Band, m: Modulation) -> [f64; 6]
 pub fn limit(x: [f64; 6], band: Band) -> [f64; 6]
     ensures { result ≡ limited x (phase_of band) }
 {
-    let i = phase_index(band);
+    let i = band.phase_index();
     let f = clamp(x[i + 1], -CarrierPllEkf::MAX_FREQ, CarrierPllEkf::MAX_FREQ);
     let c = clamp(
         x[i + 2],
@@ -85,20 +85,22 @@ pub fn limit(x: [f64; 6], band: Band) -> [f64; 6]
 pub fn lose(t: CarrierPllEkf) -> CarrierPllEkf
     ensures { result ≡ lost_tracker t }
 {
-    let mut u = t;
-    u.x = [0.0; 6];
-    u.lock_metric = 0.0;
-    u.is_locked = false;
-    u
+    CarrierPllEkf {
+        x: [0.0; 6],
+        lock_metric: 0.0,
+        is_locked: false,
+        ..t
+    }
 }
 
-// The first channel's pair enters the window; the second has none.
+// The first channel's pair enters the window; the second has none. The window is no array of 2,048: it is a stretch of memory that is lent as a slice, and
+// `push` takes a slice.
 pub fn enter(t: CarrierPllEkf, w: &mut [f64], abs_i: f64, q_sq: f64) -> CarrierPllEkf
     requires { length w.old ≡ 2048 }
     ensures { (result, w.new) ≡ windowed First t w.old abs_i q_sq }
 {
-    let s = push(t.power, w, abs_i, q_sq);
-    let mut u = t;
-    u.power = s;
-    u
+    CarrierPllEkf {
+        power: push(t.power, w, abs_i, q_sq),
+        ..t
+    }
 }

@@ -3,6 +3,7 @@
 
 pub mod correction;
 pub mod first;
+mod gain;
 pub mod lock;
 pub mod prediction;
 pub mod second;

@@ -12,9 +12,10 @@ fn noise_scale(adaptive: bool, lock_metric: f64) -> f64
     ensures { result ≡ noise_scale adaptive lock_metric }
 {
     if adaptive {
-        return 1.0 - 0.9 * clamp(lock_metric, 0.0, 1.0);
+        1.0 - 0.9 * clamp(lock_metric, 0.0, 1.0)
+    } else {
+        1.0
     }
-    1.0
 }
 
 pub fn process_noise(t: CarrierPllEkf, dt: f64) -> ProcessNoise
@@ -29,18 +30,19 @@ pub fn process_noise(t: CarrierPllEkf, dt: f64) -> ProcessNoise
     }
 }
 
-impl CarrierPllEkf {
+impl Tracked {
     // x becomes F·x, and P the mean of F·P·Fᵀ + Q and its transpose. The source sets the tracker's interval to dt, predicts and puts its own back; here dt
     // is an argument.
-    pub fn predict(self, p: [f64; 36], dt: f64) -> Tracked
-        ensures { result ≡ predicted_over dt self p }
+    pub fn predict(self, dt: f64) -> Tracked
+        ensures { result ≡ predicted_over dt self.ekf self.p }
     {
-        let x = self.x;
-        let n = process_noise(self, dt);
-        let q = tracker_covariance::prediction::predict(p, dt, n);
-        let y = predict_state(x, dt);
-        let mut t = self;
-        t.x = y;
-        Tracked { ekf: t, p: q }
+        let n = process_noise(self.ekf, dt);
+        Tracked {
+            ekf: CarrierPllEkf {
+                x: predict_state(self.ekf.x, dt),
+                ..self.ekf
+            },
+            p: tracker_covariance::prediction::predict(self.p, dt, n),
+        }
     }
 }

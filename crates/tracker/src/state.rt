@@ -42,6 +42,13 @@ pub struct Tracked {
     pub p: [f64; 36],
 }
 
+// An empty window.
+const NO_POWER: PowerSums = PowerSums {
+    pushed: 0,
+    sum_abs_i: 0.0,
+    sum_q_sq: 0.0,
+};
+
 impl CarrierPllEkf {
     // The largest frequency, in rad/s, and the largest chirp, in rad/s².
     pub const MAX_FREQ: f64 = 2.0 * 3.141592653589793 * 50000.0;
@@ -65,17 +72,12 @@ impl CarrierPllEkf {
             adaptive_ekf: true,
             dual_lock: true,
         };
-        let power = PowerSums {
-            pushed: 0,
-            sum_abs_i: 0.0,
-            sum_q_sq: 0.0,
-        };
         let ekf = CarrierPllEkf {
             modulation,
             tuning,
             x: [0.0; 6],
             envelope_ema: 1.0,
-            power,
+            power: NO_POWER,
             lock_metric: 0.0,
             is_locked: false,
             convergence_guard: 0,
@@ -91,19 +93,15 @@ impl CarrierPllEkf {
         let r = self.tuning.frequency_ratio;
         let f = 6.283185307179586 * freq_hz;
         let c = 6.283185307179586 * chirp_hz_s;
-        let x = [phase, f, c, phase, f * r, c * r];
-        let power = PowerSums {
-            pushed: 0,
-            sum_abs_i: 0.0,
-            sum_q_sq: 0.0,
+        let ekf = CarrierPllEkf {
+            x: [phase, f, c, phase, f * r, c * r],
+            envelope_ema: 1.0,
+            power: NO_POWER,
+            lock_metric: 0.5,
+            is_locked: true,
+            convergence_guard: CarrierPllEkf::CONVERGENCE_GUARD,
+            ..self
         };
-        let mut t = self;
-        t.x = x;
-        t.envelope_ema = 1.0;
-        t.power = power;
-        t.lock_metric = 0.5;
-        t.is_locked = true;
-        t.convergence_guard = CarrierPllEkf::CONVERGENCE_GUARD;
-        Tracked { ekf: t, p }
+        Tracked { ekf, p }
     }
 }

@@ -1,18 +1,11 @@
--- A sum is finite only where its terms are, and a product only where its factors are. The difference of a float and itself tells whether it is.
+-- A sum is finite only where its terms are, and a product only where its factors are. The library's test tells whether a float is.
 use mathlib.Core.Path.{◌≡◌, refl, sym, ap, ◌∙◌}
-use mathlib.Core.Bool.{Bool, true, false, not, ◌&&◌, cond, true≢false}
-use Prim.Native.Nat.{ℕ, ◌*◌, ◌-◌}
-use native.Mathlib.Nat.{mul-pos}
-use native.Mathlib.Omega.{arith}
+use mathlib.Core.Bool.{Bool, true, false, ◌&&◌, cond, true≢false}
 use lib.Dec.{eqb}
-use lib.IntN.{ℤ}
-use lib.Ieee.{Float, nan, inf, fin, Format, binary64, up, down, unlike, neg, sum, add, sub, mul, eq, round, of_bits}
+use lib.Ieee.{Float, nan, inf, fin, Format, unlike, neg, add, sub, mul}
 use lib.Ieee.Scale.{finite}
-use lib.Ieee.Fits.{down_pos}
-use borrow.Author.Tests.{le-ltb}
-use Rattle.ieee754.specs.Sign.{plus_zero}
+use Rattle.std.specs.Float.{float_is_finite}
 use Rattle.ieee754_rounding.proofs.Commutation.{mul_commutes}
-use Rattle.ieee754_rounding.proofs.Opposites.{round_zero}
 
 -- a test that failed did not pass
 pub no {ℓ} : {A : Type ℓ} → false ≡ true → A
@@ -82,29 +75,10 @@ pub both_true : (a b : Bool) → a && b ≡ true → (a ≡ true) × (b ≡ true
 both_true true b h = (refl, h)
 both_true false b h = no h
 
--- ---- x - x
+-- ---- the library's test
 
--- the same size with the two signs
-cancels : (s : Bool) (a c : ℕ) → sum binary64 s a (not s) a c ≡ round binary64 false 0 c
-unfolding sum
-cancels true a c =
-    let z : a - a ≡ 0 = omega arith in
-    rw (le-ltb a a (omega arith), z)
-cancels false a c =
-    let z : a - a ≡ 0 = omega arith in
-    rw (le-ltb a a (omega arith), z)
-
-itself : (s : Bool) (m : ℕ) (e : ℤ) → sub binary64 (fin s m e) (fin s m e) ≡ plus_zero
-unfolding sub add neg
-itself s m e = cancels s (m * up e * down e) (down e * down e) ∙ round_zero binary64 false (down e * down e) (mul-pos (down_pos e) (down_pos e))
-
-level : eq plus_zero (of_bits binary64 0) ≡ true
-unfolding eq of_bits
-level = refl
-
-pub minus_itself : (x : Float) → eq (sub binary64 x x) (of_bits binary64 0) ≡ finite x
-unfolding sub add neg eq
-minus_itself nan = refl
-minus_itself (inf true) = refl
-minus_itself (inf false) = refl
-minus_itself (fin s m e) = ap (λ (x : Float). eq x (of_bits binary64 0)) (itself s m e) ∙ level
+pub same_finite : (x : Float) → float_is_finite x ≡ finite x
+unfolding float_is_finite
+same_finite nan = refl
+same_finite (inf s) = refl
+same_finite (fin s m e) = refl

@@ -1,5 +1,5 @@
 // Correction of the covariance by the first channel's phase, each half by itself. Plain numbers and no loop, for speed.
-ghost use Rattle.std.specs.Prelude.{◌≡◌, true};
+ghost use Rattle.std.specs.Prelude.{◌≡◌, true, IfSome};
 ghost use Rattle.std.specs.Float.Ieee.{le};
 ghost use Rattle.ieee754.specs.Binary64.{ten_to_minus12};
 ghost use Rattle.ieee754.specs.Sign.{absolute};
@@ -8,16 +8,7 @@ ghost use Rattle.tracker_block_diagonal.specs.Code.Joined.{joined, gains};
 ghost use Rattle.tracker_block_diagonal.specs.Code.HalfCorrection.{half_gain, half_floored, half_left, half_right, shifted};
 
 use crate::half::{Gain, Half, Halves};
-use crate::prediction::is_finite;
 use tracker_covariance::correction::floor_variance;
-
-// What a correction gives: whether the halves stay apart and a gain is taken, that gain, and the halves after it.
-#[derive(Clone, Copy)]
-pub struct CorrectedHalves {
-    pub apart: bool,
-    pub k: Gain,
-    pub halves: Halves,
-}
 
 // K: the phase's column over s.
 fn half_gain(h: Half, s: f64) -> Gain
@@ -34,19 +25,11 @@ fn half_gain(h: Half, s: f64) -> Gain
 fn floor_half(h: Half) -> Half
     ensures { result ≡ half_floored h }
 {
-    let pp = floor_variance(h.pp);
-    let ff = floor_variance(h.ff);
-    let cc = floor_variance(h.cc);
     Half {
-        pp,
-        pf: h.pf,
-        pc: h.pc,
-        fp: h.fp,
-        ff,
-        fc: h.fc,
-        cp: h.cp,
-        cf: h.cf,
-        cc,
+        pp: floor_variance(h.pp),
+        ff: floor_variance(h.ff),
+        cc: floor_variance(h.cc),
+        ..h
     }
 }
 
@@ -101,25 +84,22 @@ fn shift(h: Half, o: f64) -> Half
     }
 }
 
-// The correction with the noise's variance. The halves stay apart where every factor of a 0 is finite; a sum is finite only where its terms are,
-// and a product where its factors are, so one sum tells it of the noise, the gain and the entries.
-pub fn correct(h: Halves, noise: f64) -> CorrectedHalves
-    ensures { result.apart ≡ true → (le ten_to_minus12 (absolute (innovation_variance (joined h) 0 noise)) ≡ true) × (gains result.k ≡ gain_of (joined h) 0 (innovation_variance (joined h) 0 noise)) × (joined result.halves ≡ corrected (joined h) 0 (gains result.k) noise) }
+// The correction with the noise's variance: the gain that it takes, and the halves after it, where they stay apart and a gain is taken. They stay apart where
+// every factor of a 0 is finite; a sum is finite only where its terms are, and a product where its factors are, so one sum tells it of the noise, the gain and
+// the entries.
+pub fn correct(h: Halves, noise: f64) -> Option<(Gain, Halves)>
+    ensures { IfSome result (λ (k, after). (le ten_to_minus12 (absolute (innovation_variance (joined h) 0 noise)) ≡ true) × (gains k ≡ gain_of (joined h) 0 (innovation_variance (joined h) 0 noise)) × (joined after ≡ corrected (joined h) 0 (gains k) noise)) }
 {
-    let first = h.first;
-    let second = h.second;
-    let s = first.pp + noise;
-    let k = half_gain(first, s);
-    let f = floor_half(first);
-    let g = floor_half(second);
+    let s = h.first.pp + noise;
+    let k = half_gain(h.first, s);
+    let f = floor_half(h.first);
+    let g = floor_half(h.second);
     let t = joseph_left(f, k);
-    let a = joseph_right(t, k, noise);
-    let b = shift(g, 0.0 * noise);
-    let finite = is_finite(s + f.pf + f.pc + t.pp + t.fp + t.cp);
+    let finite = (s + f.pf + f.pc + t.pp + t.fp + t.cp).is_finite();
     let apart = (1e-12 <= s) & finite;
     let halves = Halves {
-        first: a,
-        second: b,
+        first: joseph_right(t, k, noise),
+        second: shift(g, 0.0 * noise),
     };
-    CorrectedHalves { apart, k, halves }
+    if apart { Some((k, halves)) } else { None }
 }

@@ -1,6 +1,5 @@
 // Prediction of the covariance, each half by itself. Plain numbers and no loop, for speed.
 ghost use Rattle.std.specs.Prelude.{◌≡◌, true};
-ghost use Rattle.std.specs.Float.Ieee.Scale.{finite};
 ghost use Rattle.tracker_covariance.specs.Prediction.{predicted};
 ghost use Rattle.tracker_block_diagonal.specs.Code.Joined.{joined};
 ghost use Rattle.tracker_block_diagonal.specs.Code.Steady.{Steady};
@@ -9,21 +8,12 @@ ghost use Rattle.tracker_block_diagonal.specs.Code.HalfPrediction.{moved_rows, m
 use crate::half::{Half, Halves};
 use tracker_covariance::prediction::{ProcessNoise, same_frequency};
 
-// Whether x is neither an infinity nor a NaN: of those, x - x is a NaN.
-pub fn is_finite(x: f64) -> bool
-    ensures { result ≡ finite x }
-{
-    x - x == 0.0
-}
-
 // Whether a prediction keeps the halves apart. Half the square of an interval is finite only where the interval is.
 pub fn is_steady(dt: f64, ratio: f64) -> bool
     ensures { result ≡ true → Steady dt ratio }
 {
     let dt2 = 0.5 * dt * dt;
-    let interval = is_finite(dt2);
-    let same = same_frequency(ratio);
-    interval & same
+    dt2.is_finite() && same_frequency(ratio)
 }
 
 // F.P of a half.
@@ -90,16 +80,8 @@ pub fn predict(h: Halves, dt: f64, n: ProcessNoise) -> Halves
     requires { Steady dt n.ratio }
     ensures { joined result ≡ predicted dt n (joined h) }
 {
-    let first = h.first;
-    let second = h.second;
-    let a = move_rows(first, dt);
-    let b = move_columns(a, dt);
-    let c = half_mean(b, n);
-    let d = move_rows(second, dt);
-    let e = move_columns(d, dt);
-    let f = half_mean(e, n);
     Halves {
-        first: c,
-        second: f,
+        first: half_mean(move_columns(move_rows(h.first, dt), dt), n),
+        second: half_mean(move_columns(move_rows(h.second, dt), dt), n),
     }
 }

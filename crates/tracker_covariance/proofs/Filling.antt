@@ -8,6 +8,8 @@ use lib.Dec.{lit<, lit≤}
 use lib.ListN.{length, get_or, set, length-set}
 use lib.Seq.{get_or-set_same, get_or-set_other, ext_get_or}
 use lib.Ieee.{Float, nan}
+use denote.Param.Members.{Mut, Called}
+use Rattle.std.specs.Array.{IsFromFnResult, IsFromFnResultFrom}
 use borrow.Author.Count.{below_more}
 use Rattle.tracker_covariance.specs.Matrix.{at, matrix, list_from}
 
@@ -49,6 +51,28 @@ listed n f out e h =
 
 pub full : (n : ℕ) (f : ℕ → Float) (out : List Float) (k : ℕ) → n ≤ k → Filled n f out k → out ≡ list_from n 0 f
 full n f out k l h = listed n f out h.long (λ j m. h.at j (omega arith))
+
+-- what the library's `from_fn` makes, where each call gives v of its index and leaves f as it is
+module _ {F : Type 0} (g : Mut F (ℕ × Unit {0}) Float) (v : ℕ → Float) (f : F) where
+  abbrev pub Gives : Type 0
+  Gives = (i : ℕ) (y : Float) (q : F) → Called g f (i, tt) y q → (y ≡ v i) × (q ≡ f)
+
+  given : Gives → (ys : List Float) (n i : ℕ) (q : F) → q ≡ f → IsFromFnResultFrom g q ys i n → (k : ℕ) → k < n → get_or ys (i + k) nan ≡ v (i + k)
+  given s ys zero i q e h k l = absurd (not-suc-le-zero l)
+  given s ys (suc n) i q e h zero l =
+      let u = s i h.1 h.0 (subst (λ (a : F). Called g a (i, tt) h.1 h.0) e h.3) in
+      ap (λ (j : ℕ). get_or ys j nan) (add-zero i) ∙ h.2.1 nan ∙ u.0 ∙ ap v (sym (add-zero i))
+  given s ys (suc n) i q e h (suc k) l =
+      let u = s i h.1 h.0 (subst (λ (a : F). Called g a (i, tt) h.1 h.0) e h.3) in
+      let z : i + suc k ≡ i + 1 + k = omega arith in
+      ap (λ (j : ℕ). get_or ys j nan) z ∙ given s ys n (i + 1) h.0 u.1 h.4 k (le_of_suc-le-suc l) ∙ ap v (sym z)
+
+  pub made_by : Gives → (ys : List Float) (n : ℕ) → IsFromFnResult g f ys n → ys ≡ list_from n 0 v
+  made_by s ys n h =
+      listed n v ys h.long
+      (λ k l.
+      let z : 0 + k ≡ k = omega arith in
+      ap (λ (j : ℕ). get_or ys j nan) (sym z) ∙ given s ys n 0 f refl h.each k l ∙ ap v z)
 
 -- ---- by rows and columns
 -- what stands at place k of the matrix with the entries f r c

@@ -5,14 +5,14 @@ ghost use Rattle.ieee754.specs.Order.{maximum};
 ghost use Rattle.tracker_covariance.specs.States.{phase_of};
 ghost use Rattle.tracker_covariance.specs.Correction.{innovation_variance, takes_gain, gain_of, floored};
 
-use crate::states::{Band, phase_index};
+use crate::states::Band;
 use ieee754::sign::abs;
 
 // s, the variance of the innovation: the phase's own and that of the measurement.
 pub fn innovation_variance(p: [f64; 36], band: Band, noise: f64) -> f64
     ensures { result ≡ innovation_variance p (phase_of band) noise }
 {
-    let i = phase_index(band);
+    let i = band.phase_index();
     p[6 * i + i] + noise
 }
 
@@ -27,12 +27,8 @@ pub fn takes_gain(s: f64) -> bool
 pub fn gain(p: [f64; 36], band: Band, s: f64) -> [f64; 6]
     ensures { result ≡ gain_of p (phase_of band) s }
 {
-    let i = phase_index(band);
-    let mut k = [0.0; 6];
-    for r in 0..6 {
-        k[r] = p[6 * r + i] / s;
-    }
-    k
+    let i = band.phase_index();
+    std::array::from_fn(|r| p[6 * r + i] / s)
 }
 
 // Rust's `v.max(1e-15)`. The comparison is false for a NaN, which so becomes 1e-15.

@@ -74,11 +74,7 @@ fn transition_transposed(p: [f64; 36], dt: f64) -> [f64; 36]
 fn sum(p: [f64; 36], q: [f64; 36]) -> [f64; 36]
     ensures { result ≡ sum_of p q }
 {
-    let mut out = [0.0; 36];
-    for k in 0..36 {
-        out[k] = p[k] + q[k];
-    }
-    out
+    std::array::from_fn(|k| p[k] + q[k])
 }
 
 // The mean of P and its transpose, which keeps P symmetric.

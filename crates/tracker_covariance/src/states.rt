@@ -3,6 +3,8 @@ ghost use Rattle.std.specs.Prelude.{◌≡◌};
 ghost use Rattle.tracker_covariance.specs.States.{phase_of};
 ghost use Rattle.tracker_covariance.specs.Transition.{predicted_state};
 ghost use Rattle.tracker_covariance.specs.Correction.{corrected_state};
+ghost use Rattle.tracker_covariance.specs.declared.states.Band.{Band};
+ghost use Rattle.tracker_covariance.specs.declared.states.Band.TheVariants.{First, Second};
 
 // The channel that a correction is for. An enum, so that no index has to be promised.
 #[derive(Clone, Copy)]
@@ -11,14 +13,39 @@ pub enum Band {
     Second,
 }
 
-// Where the channel's phase stands.
-pub fn phase_index(band: Band) -> usize
-    ensures { result ≡ phase_of band }
-{
-    match band {
-        Band::First => 0,
-        Band::Second => 3,
+impl Band {
+    // Where the channel's phase stands.
+    pub fn phase_index(self) -> usize
+        ensures { result ≡ phase_of self }
+    {
+        match self {
+            Band::First => 0,
+            Band::Second => 3,
+        }
     }
+}
+
+// A channel as a type: a correction that is generic over it is compiled for each of the two, with the place of the phase a constant.
+pub trait Channel {
+    const BAND: Band;
+
+    ghost BAND: { Band };
+}
+
+pub struct FirstChannel;
+
+pub struct SecondChannel;
+
+impl Channel for FirstChannel {
+    const BAND: Band = Band::First;
+
+    ghost BAND = { First };
+}
+
+impl Channel for SecondChannel {
+    const BAND: Band = Band::Second;
+
+    ghost BAND = { Second };
 }
 
 // F·x over the interval dt.

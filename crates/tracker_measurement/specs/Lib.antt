@@ -5,3 +5,4 @@ pub mod Sample
 pub mod Angle
 pub mod Noise
 pub mod Measurement
+pub mod Code

@@ -9,10 +9,8 @@ use crate::sample::Point;
 fn fourth_power(d: Point) -> Point
     ensures { result ≡ fourth_power d }
 {
-    let a = d.re;
-    let b = d.im;
-    let i2 = a * a - b * b;
-    let q2 = 2.0 * a * b;
+    let i2 = d.re * d.re - d.im * d.im;
+    let q2 = 2.0 * d.re * d.im;
     Point {
         re: i2 * i2 - q2 * q2,
         im: 2.0 * i2 * q2,
@@ -31,8 +29,7 @@ pub fn phase_error(m: Modulation, d: Point) -> f64
     ensures { result ≡ phase_error m d }
 {
     match m {
-        Modulation::Carrier => elementary_arctangent::atan2(d.im, d.re),
-        Modulation::Bpsk => elementary_arctangent::atan2(d.im, d.re),
+        Modulation::Carrier | Modulation::Bpsk => elementary_arctangent::atan2(d.im, d.re),
         Modulation::Qpsk => fourth_angle(d),
     }
 }
@@ -42,8 +39,7 @@ pub fn in_phase(m: Modulation, z: f64) -> f64
     ensures { result ≡ in_phase m z }
 {
     match m {
-        Modulation::Carrier => elementary_sincos::cos(z),
-        Modulation::Bpsk => elementary_sincos::cos(z),
+        Modulation::Carrier | Modulation::Bpsk => elementary_sincos::cos(z),
         Modulation::Qpsk => elementary_sincos::cos(4.0 * z),
     }
 }

@@ -1,11 +1,12 @@
 // All that one sample says.
 ghost use Rattle.std.specs.Prelude.{◌≡◌};
 ghost use Rattle.tracker_measurement.specs.Measurement.{measured};
+ghost use Rattle.tracker_measurement.specs.Code.Parts.{received, detected};
 
 use crate::angle::{in_phase, phase_error};
 use crate::modulation::{Modulation, wrap};
 use crate::noise::{effective_noise, envelope_of};
-use crate::sample::{amplitude_of, derotate, fold, used_sample};
+use crate::sample::{Point, amplitude_of, derotate, fold, used_sample};
 use ieee754::sign::abs;
 
 // What is known before the sample.
@@ -16,6 +17,52 @@ pub struct Prior {
     pub lock_metric: f64,
     pub r_meas: f64,
     pub envelope_ema: f64,
+}
+
+// What the covariance waits for: the sample turned back by the predicted phase; the envelope with the sample in it; R, the variance that it is measured with.
+#[derive(Clone, Copy)]
+pub struct Received {
+    pub point: Point,
+    pub envelope_ema: f64,
+    pub r_effective: f64,
+}
+
+// Compiled into each of its callers, for speed. The amplitude, which does not wait for the phase, comes first.
+#[inline(always)]
+pub fn receive(prior: Prior, re: f32, im: f32) -> Received
+    ensures { result ≡ received prior re im }
+{
+    let s = used_sample(prior.modulation, re, im);
+    let amp = amplitude_of(s);
+    let point = derotate(prior.theta_pred, s);
+    let envelope_ema = envelope_of(prior.envelope_ema, amp);
+    Received {
+        point,
+        envelope_ema,
+        r_effective: effective_noise(prior.r_meas, prior.lock_metric, amp, envelope_ema),
+    }
+}
+
+// What the phase detector gives: the phase error, and wrapped, the innovation; the pair for the power ratio.
+#[derive(Clone, Copy)]
+pub struct Detected {
+    pub error: f64,
+    pub z: f64,
+    pub abs_i: f64,
+    pub q_sq: f64,
+}
+
+pub fn detect(m: Modulation, point: Point) -> Detected
+    ensures { result ≡ detected m point }
+{
+    let error = phase_error(m, point);
+    let n = fold(m, point);
+    Detected {
+        error,
+        z: wrap(m, error),
+        abs_i: abs(n.re),
+        q_sq: n.im * n.im,
+    }
 }
 
 // The innovation, wrapped; the in-phase value; the pair for the power ratio; the envelope with this sample in it; R.
@@ -32,23 +79,14 @@ pub struct Measured {
 pub fn measure(prior: Prior, re: f32, im: f32) -> Measured
     ensures { result ≡ measured prior re im }
 {
-    let m = prior.modulation;
-    let s = used_sample(m, re, im);
-    let d = derotate(prior.theta_pred, s);
-    let amp = amplitude_of(s);
-    let env = envelope_of(prior.envelope_ema, amp);
-    let r_effective = effective_noise(prior.r_meas, prior.lock_metric, amp, env);
-    let error = phase_error(m, d);
-    let z = wrap(m, error);
-    let norm_re = in_phase(m, error);
-    let n = fold(m, d);
-    let abs_i = abs(n.re);
+    let a = receive(prior, re, im);
+    let d = detect(prior.modulation, a.point);
     Measured {
-        z,
-        norm_re,
-        abs_i,
-        q_sq: n.im * n.im,
-        envelope_ema: env,
-        r_effective,
+        z: d.z,
+        norm_re: in_phase(prior.modulation, d.error),
+        abs_i: d.abs_i,
+        q_sq: d.q_sq,
+        envelope_ema: a.envelope_ema,
+        r_effective: a.r_effective,
     }
 }

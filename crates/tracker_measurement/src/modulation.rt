@@ -5,43 +5,39 @@ ghost use Rattle.tracker_measurement.specs.Phase.{limit, half_limit, wrapped};
 
 use ieee754::remainder::rem_euclid;
 
-#[derive(Clone, Copy)]
+#[derive(Clone, Copy, PartialEq, Eq)]
 pub enum Modulation {
-    Carrier,
-    Bpsk,
-    Qpsk,
+    Carrier = 0,
+    Bpsk = 1,
+    Qpsk = 2,
 }
 
-// The scope's number.
+// The scope's number. A function and no method, since crates above name it so.
 pub fn modulation_number(m: Modulation) -> u64
     ensures { result ≡ modulation_number m }
 {
-    match m {
-        Modulation::Carrier => 0,
-        Modulation::Bpsk => 1,
-        Modulation::Qpsk => 2,
-    }
+    m as u64
 }
 
-// The length of the range.
-fn limit_of(m: Modulation) -> f64
-    ensures { result ≡ limit m }
-{
-    match m {
-        Modulation::Carrier => 6.283185307179586,
-        Modulation::Bpsk => 6.283185307179586,
-        Modulation::Qpsk => 1.5707963267948966,
+impl Modulation {
+    // The length of the range.
+    fn limit(self) -> f64
+        ensures { result ≡ limit self }
+    {
+        match self {
+            Modulation::Carrier | Modulation::Bpsk => 6.283185307179586,
+            Modulation::Qpsk => 1.5707963267948966,
+        }
     }
-}
 
-// Half of it.
-fn half_limit_of(m: Modulation) -> f64
-    ensures { result ≡ half_limit m }
-{
-    match m {
-        Modulation::Carrier => 3.141592653589793,
-        Modulation::Bpsk => 3.141592653589793,
-        Modulation::Qpsk => 0.7853981633974483,
+    // Half of it.
+    fn half_limit(self) -> f64
+        ensures { result ≡ half_limit self }
+    {
+        match self {
+            Modulation::Carrier | Modulation::Bpsk => 3.141592653589793,
+            Modulation::Qpsk => 0.7853981633974483,
+        }
     }
 }
 
@@ -51,8 +47,8 @@ fn half_limit_of(m: Modulation) -> f64
 pub fn wrap(m: Modulation, angle: f64) -> f64
     ensures { result ≡ wrapped m angle }
 {
-    let half = half_limit_of(m);
-    let limit = limit_of(m);
+    let half = m.half_limit();
+    let limit = m.limit();
     let y = angle + half;
     if (0.0 <= y) & (y < limit) {
         return y - half;

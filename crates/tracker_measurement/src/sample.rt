@@ -17,9 +17,10 @@ pub struct Point {
 fn widened(re: f32, im: f32) -> Point
     ensures { result ≡ point re im }
 {
-    let a = std::num::f32_to_f64_with_nan(re);
-    let b = std::num::f32_to_f64_with_nan(im);
-    Point { re: a, im: b }
+    Point {
+        re: f64::from(re),
+        im: f64::from(im),
+    }
 }
 
 // The sample, squared for BPSK while it is still f32.
@@ -27,9 +28,8 @@ pub fn used_sample(m: Modulation, re: f32, im: f32) -> Point
     ensures { result ≡ used m re im }
 {
     match m {
-        Modulation::Carrier => widened(re, im),
+        Modulation::Carrier | Modulation::Qpsk => widened(re, im),
         Modulation::Bpsk => widened(re * re - im * im, re * im + im * re),
-        Modulation::Qpsk => widened(re, im),
     }
 }
 
@@ -38,11 +38,9 @@ pub fn derotate(theta: f64, s: Point) -> Point
     ensures { result ≡ derotated theta s }
 {
     let u = elementary_sincos::sin_cos(-theta);
-    let sin = u.sin;
-    let cos = u.cos;
     Point {
-        re: s.re * cos - s.im * sin,
-        im: s.re * sin + s.im * cos,
+        re: s.re * u.cos - s.im * u.sin,
+        im: s.re * u.sin + s.im * u.cos,
     }
 }
 
@@ -69,8 +67,7 @@ pub fn fold(m: Modulation, d: Point) -> Point
     ensures { result ≡ folded m d }
 {
     match m {
-        Modulation::Carrier => d,
-        Modulation::Bpsk => d,
+        Modulation::Carrier | Modulation::Bpsk => d,
         Modulation::Qpsk => along_diagonals(d),
     }
 }

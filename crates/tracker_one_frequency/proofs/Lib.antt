@@ -1,3 +1,2 @@
 -- What the proofs of the functions cite, on plain values.
-pub mod MeasuredParts
 pub mod UpdateLaws

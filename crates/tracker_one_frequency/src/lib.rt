@@ -4,6 +4,5 @@
 #![tactic(auto)]
 
 pub mod prediction;
-mod sample;
 pub mod state;
 pub mod update;

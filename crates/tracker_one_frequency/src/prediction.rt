@@ -7,18 +7,22 @@ ghost use Rattle.tracker_one_frequency.specs.Code.Whole.{whole};
 
 use crate::state::Single;
 use tracker::prediction::process_noise;
+use tracker::state::CarrierPllEkf;
 use tracker_covariance::states::predict_state;
 
-pub fn predict(h: Single, dt: f64) -> Single
-    requires { Steady dt h.ekf.tuning.frequency_ratio }
-    ensures { whole result ≡ predicted_over dt h.ekf (joined h.halves) }
-{
-    let t = h.ekf;
-    let x = t.x;
-    let n = process_noise(t, dt);
-    let q = tracker_block_diagonal::prediction::predict(h.halves, dt, n);
-    let y = predict_state(x, dt);
-    let mut u = t;
-    u.x = y;
-    Single { ekf: u, halves: q }
+impl Single {
+    pub fn predict(self, dt: f64) -> Single
+        requires { Steady dt self.ekf.tuning.frequency_ratio }
+        ensures { whole result ≡ predicted_over dt self.ekf (joined self.halves) }
+    {
+        let t = self.ekf;
+        let n = process_noise(t, dt);
+        Single {
+            ekf: CarrierPllEkf {
+                x: predict_state(t.x, dt),
+                ..t
+            },
+            halves: tracker_block_diagonal::prediction::predict(self.halves, dt, n),
+        }
+    }
 }

@@ -7,10 +7,3 @@ pub struct Single {
     pub ekf: CarrierPllEkf,
     pub halves: Halves,
 }
-
-// What an update leaves: whether it was made, and the tracker.
-#[derive(Clone, Copy)]
-pub struct Updated {
-    pub made: bool,
-    pub tracker: Single,
-}

@@ -1,6 +1,6 @@
 // What a sample does to a tracker, or one of each of two frequencies: a locked tracker is predicted and corrected, one that fades is predicted,
 // another stands still. There is one call of the prediction and one of the update, so that the compiler copies no tracker.
-ghost use Rattle.std.specs.Prelude.{◌≡◌, cond, length};
+ghost use Rattle.std.specs.Prelude.{◌≡◌, MatchOption, cond, length};
 ghost use Rattle.tracker_model.specs.Following.{follow, follow_dual};
 
 use tracker::state::Tracked;
@@ -15,29 +15,23 @@ fn interval_of(locked: bool, dt: f64, own: f64) -> f64
 pub fn step(
     h: Tracked,
     w: &mut [f64],
-    two: bool,
-    re1: f32,
-    im1: f32,
-    re2: f32,
-    im2: f32,
+    first: (f32, f32),
+    second: Option<(f32, f32)>,
     dt: f64,
     fade: bool,
 ) -> Tracked
     requires { length w.old ≡ 2048 }
-    ensures { (result, w.new) ≡ cond two (follow_dual dt fade (h, w.old) ((re1, im1), (re2, im2))) (follow dt fade (h, w.old) (re1, im1)) }
+    ensures { MatchOption second
+        ((result, w.new) ≡ follow dt fade (h, w.old) first)
+        (λ s. (result, w.new) ≡ follow_dual dt fade (h, w.old) (first, s)) }
 {
     let locked = h.ekf.is_locked;
-    let own = h.ekf.tuning.ts;
     if locked | fade {
-        let t = h.ekf;
-        let p = h.p;
-        let a = t.predict(p, interval_of(locked, dt, own));
+        let after = h.predict(interval_of(locked, dt, h.ekf.tuning.ts));
         if locked {
-            let u = a.ekf;
-            let q = a.p;
-            return u.update(q, w, two, re1, im1, re2, im2);
+            return after.update(w, first, second);
         }
-        return a;
+        return after;
     }
     h
 }

@@ -3,7 +3,7 @@
 
 ghost use Rattle.std.specs.Prelude.{◌≡◌, length};
 ghost use Rattle.tracker_power_ratio.specs.Ring.{later};
-ghost use Rattle.tracker_power_ratio.specs.PowerRatio.{not_negative, moved_sum, pushed, ratio};
+ghost use Rattle.tracker_power_ratio.specs.PowerRatio.{not_negative, moved_by, pushed, ratio};
 
 // The pairs pushed since the last reset, up to 2,047 and then from 1,024 on again; and the sums over the latest 1,024 of them.
 #[repr(C)]
@@ -15,30 +15,34 @@ pub struct PowerSums {
 }
 
 // The count after one more pair. The slot, its remainder by 1,024, goes round.
+#[tactic(auto, unfolding(crate::specs::Ring::later))]
 fn next_count(n: usize) -> usize
     ensures { result ≡ later n }
 {
     if n < 2047 { n + 1 } else { 1024 }
 }
 
+#[tactic(auto, unfolding(crate::specs::PowerRatio::not_negative))]
 fn not_negative(x: f64) -> f64
     ensures { result ≡ not_negative x }
 {
     if x < 0.0 { 0.0 } else { x }
 }
 
-// A sum with the new number in it and, where the ring is full, the old one out of it.
-fn move_sum(full: bool, sum: f64, new: f64, old: f64) -> f64
-    ensures { result ≡ moved_sum full sum new old }
+// A sum with the new number in it and without the one that leaves the ring, if one does.
+#[tactic(auto, unfolding(crate::specs::PowerRatio::moved_sum))]
+fn move_sum(sum: f64, new: f64, leaving: Option<f64>) -> f64
+    ensures { result ≡ moved_by sum new leaving }
 {
     let more = sum + new;
-    if full {
-        return not_negative(more - old);
+    match leaving {
+        Some(old) => not_negative(more - old),
+        None => not_negative(more),
     }
-    not_negative(more)
 }
 
 // A pair enters the ring, in the place of the oldest once it is full.
+// No method of the sums: the ring is memory that the caller lends, and changes with them.
 pub fn push(s: PowerSums, w: &mut [f64], abs_i: f64, q_sq: f64) -> PowerSums
     requires { length w.old ≡ 2048 }
     ensures { (result, w.new) ≡ pushed s w.old abs_i q_sq }
@@ -46,21 +50,19 @@ pub fn push(s: PowerSums, w: &mut [f64], abs_i: f64, q_sq: f64) -> PowerSums
     let n = s.pushed;
     let full = 1024 <= n;
     let k = 2 * (n % 1024);
-    let old_abs_i = w[k];
-    let old_q_sq = w[k + 1];
+    let leaving_abs_i = full.then_some(w[k]);
+    let leaving_q_sq = full.then_some(w[k + 1]);
     w[k] = abs_i;
     w[k + 1] = q_sq;
-    let count = next_count(n);
-    let i = move_sum(full, s.sum_abs_i, abs_i, old_abs_i);
-    let q = move_sum(full, s.sum_q_sq, q_sq, old_q_sq);
     PowerSums {
-        pushed: count,
-        sum_abs_i: i,
-        sum_q_sq: q,
+        pushed: next_count(n),
+        sum_abs_i: move_sum(s.sum_abs_i, abs_i, leaving_abs_i),
+        sum_q_sq: move_sum(s.sum_q_sq, q_sq, leaving_q_sq),
     }
 }
 
-// The squared I sum over the Q sum.
+// The squared I sum over the Q sum. No method of the sums: the scope has it of two numbers, and the count has no part in it.
+#[tactic(auto, unfolding(crate::specs::PowerRatio::ratio))]
 pub fn ratio_of(sum_abs_i: f64, sum_q_sq: f64) -> f64
     ensures { result ≡ ratio sum_abs_i sum_q_sq }
 {

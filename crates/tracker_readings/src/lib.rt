@@ -12,9 +12,8 @@ pub fn scale_of(m: Modulation) -> f64
     ensures { result ≡ scale m }
 {
     match m {
-        Modulation::Carrier => 1.0,
+        Modulation::Carrier | Modulation::Qpsk => 1.0,
         Modulation::Bpsk => 2.0,
-        Modulation::Qpsk => 1.0,
     }
 }
 
@@ -22,22 +21,19 @@ pub fn scale_of(m: Modulation) -> f64
 pub fn frequency_of(k: f64, t: CarrierPllEkf) -> f64
     ensures { result ≡ hertz k t 1 }
 {
-    let x = t.x;
-    x[1] / k / 6.283185307179586
+    t.x[1] / k / 6.283185307179586
 }
 
 // That of the second channel.
 pub fn second_frequency_of(k: f64, t: CarrierPllEkf) -> f64
     ensures { result ≡ hertz k t 4 }
 {
-    let x = t.x;
-    x[4] / k / 6.283185307179586
+    t.x[4] / k / 6.283185307179586
 }
 
 // The phase at the scale k.
 pub fn phase_of(k: f64, t: CarrierPllEkf) -> f64
     ensures { result ≡ phase_at k t }
 {
-    let x = t.x;
-    x[0] / k
+    t.x[0] / k
 }

@@ -5,80 +5,70 @@ ghost use Rattle.tracker_vectors.specs.Code.Before.{modulation_of, tuning_from, 
 use tracker::state::{CarrierPllEkf, Tuning};
 use tracker_measurement::modulation::Modulation;
 use tracker_power_ratio::PowerSums;
-use vectors::line::{float64, mark, number, six};
+use vectors::line::{Word, array_at};
 
+// Not the function of `channel_open`, which stands above the tracker: this program looks at the tracker alone.
+#[tactic(auto, using(std::proofs::lemmas::Bool::Decides::nat_tests), unfolding(crate::specs::Code::Before::modulation_of))]
 fn modulation_of(n: u64) -> Modulation
     ensures { result ≡ modulation_of n }
 {
-    if n == 0 {
-        return Modulation::Carrier;
+    match n {
+        0 => Modulation::Carrier,
+        1 => Modulation::Bpsk,
+        _ => Modulation::Qpsk,
     }
-    if n == 1 {
-        return Modulation::Bpsk;
-    }
-    Modulation::Qpsk
 }
 
 // A new tracker's tuning, with the line's measurement noise.
+#[tactic(auto, unfolding(crate::specs::Code::Before::tuning_from, tracker::specs::State::initial_tracker))]
 fn tuning_in(b: &[u64], dual_lock: bool) -> Tuning
     ensures { result ≡ tuning_from dual_lock b.now }
 {
     let new = CarrierPllEkf::new(1000.0, Modulation::Carrier);
-    let t = new.ekf;
-    let mut tuning = t.tuning;
-    tuning.dual_lock = dual_lock;
-    tuning.r_meas = float64(b, 44);
-    tuning
+    Tuning {
+        r_meas: f64::at(b, 44),
+        dual_lock,
+        ..new.ekf.tuning
+    }
 }
 
+#[tactic(auto, unfolding(crate::specs::Code::Before::power_from))]
 fn power_in(b: &[u64]) -> PowerSums
     ensures { result ≡ power_from b.now }
 {
-    let pushed = number(b, 49) as usize;
-    let sum_abs_i = float64(b, 47);
-    let sum_q_sq = float64(b, 48);
     PowerSums {
-        pushed,
-        sum_abs_i,
-        sum_q_sq,
+        pushed: usize::at(b, 49),
+        sum_abs_i: f64::at(b, 47),
+        sum_q_sq: f64::at(b, 48),
     }
 }
 
 // The tracker.
+#[tactic(auto, unfolding(crate::specs::Code::Before::tracker_from))]
 pub fn tracker_in(b: &[u64], dual_lock: bool, guard: usize) -> CarrierPllEkf
     ensures { result ≡ tracker_from dual_lock guard b.now }
 {
-    let modulation = modulation_of(number(b, 0));
-    let tuning = tuning_in(b, dual_lock);
-    let x = six(b, 2);
-    let envelope_ema = float64(b, 46);
-    let power = power_in(b);
-    let lock_metric = float64(b, 45);
-    let is_locked = mark(b, 1);
     CarrierPllEkf {
-        modulation,
-        tuning,
-        x,
-        envelope_ema,
-        power,
-        lock_metric,
-        is_locked,
+        modulation: modulation_of(u64::at(b, 0)),
+        tuning: tuning_in(b, dual_lock),
+        x: array_at(b, 2),
+        envelope_ema: f64::at(b, 46),
+        power: power_in(b),
+        lock_metric: f64::at(b, 45),
+        is_locked: bool::at(b, 1),
         convergence_guard: guard,
     }
 }
 
 // The window: the oldest pair stands in slot 0, where the next one goes if the ring is full or empty.
+#[tactic(auto, using(std::proofs::lemmas::Bool::Decides::nat_tests), unfolding(crate::specs::Code::Before::window_from, crate::specs::Code::Before::no_pairs))]
 pub fn window_in(b: &[u64]) -> [f64; 2048]
     ensures { result ≡ window_from b.now }
 {
-    let n = number(b, 49);
-    let abs_i = float64(b, 50);
-    let q_sq = float64(b, 51);
     let mut w = [0.0; 2048];
-    if n % 1024 == 0 {
-        w[0] = abs_i;
-        w[1] = q_sq;
-        return w;
+    if u64::at(b, 49) % 1024 == 0 {
+        w[0] = f64::at(b, 50);
+        w[1] = f64::at(b, 51);
     }
     w
 }

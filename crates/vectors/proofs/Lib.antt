@@ -1,3 +1,4 @@
--- Loops that fill a list from a line, loops that compare with one, and counting.
+-- What stands at a line's places, folds, and counting.
 pub mod LineLaws
+pub mod Folds
 pub mod CountLaws

@@ -1,104 +1,90 @@
--- One turn and the end of a loop that fills a list from a line's places, and of one that compares numbers with a line's. Assumes nothing.
-use mathlib.Core.Path.{◌≡◌, refl, sym, ap, ◌∙◌}
-use mathlib.Core.Bool.{Bool, true, false, ◌&&◌, and_assoc}
-use mathlib.Core.List.{List, [], ◌∷◌, ◌++◌, map}
-use Prim.Native.Nat.{ℕ, zero, suc, ◌+◌, ◌-◌, ◌≤◌, ◌<◌, ◌%◌, ◌^◌, min}
-use native.Mathlib.Nat.{add-zero, zero-min, suc-min-suc}
-use native.Mathlib.Numerals.{add-one}
-use native.Mathlib.Omega.{arith}
+-- Values at the places of a line, and a comparison with one. Assumes nothing.
+use Rattle.std.proofs.Common.{map-id, ◌≡◌, refl, sym, ap, ◌∙◌, Bool, true, false, ◌&&◌, ◌⊎◌, inl, inr, ℕ, zero, suc, ◌+◌, ◌-◌, ◌<◌, ◌≤◌, min, eqb, List, [], ◌∷◌, ◌++◌, map, length, get_or, take, drop, set, arith}
+use Rattle.std.proofs.lemmas.List.{get_or-drop}
+use mathlib.Core.Bool.{and_assoc}
+use native.Mathlib.Nat.{zero-min, suc-min-suc}
 use borrow.Author.Tests.{eq-eqb, ne_eqb}
-use lib.Dec.{eqb}
-use lib.Ieee.{Float, Format, binary32, binary64, of_bits, to_bits}
-use lib.ListN.{length, get_or, take, drop, set, length-drop, length-map, drop_of_length-le, get_or-map}
-use lib.Seq.{length-take-le, length_front, take_at, take-suc-set, take_all, drop-cons, drop-nil, drop-drop, get_or-drop}
+use lib.ListN.{length-drop}
+use lib.Seq.{take_at, take_all, length_front, length-take-le, drop-nil, drop-drop, take-suc-set}
+use native.Mathlib.Numerals.{add-one}
+use native.Mathlib.Nat.{add-zero}
 use Rattle.sequences.specs.Stretches.{stretch}
-use Rattle.vectors.specs.Code.Lines.{number_at, float64_at, float32_at, from_place, float32s_at, same_numbers, stands_at}
+use Rattle.vectors.specs.Code.Lines.{number_at, from_place, values_at, same_numbers, stands_at}
 use Rattle.vectors.specs.Code.Standing.{standing}
 
--- n places more and one
-from_place_more : (f : ℕ → Float) (i n : ℕ) → from_place f i (suc n) ≡ from_place f i n ++ (f (i + n) ∷ [])
-unfolding from_place
-from_place_more f i zero = rw (add-zero i)
-from_place_more f i (suc n) =
-    let e : i + 1 + n ≡ i + suc n = omega arith in
-    ap (λ (l : List Float). f i ∷ l) (from_place_more f (i + 1) n ∙ rw e)
+-- what stands at a place of what is left of a line stands in the line
+pub in_rest : {A : Type 0} (at : ℕ → List ℕ → A) (of_pattern : ℕ → A) → ((i : ℕ) (ws : List ℕ) → at i ws ≡ of_pattern (number_at i ws)) → (i k : ℕ) (ws : List ℕ) → at k (drop i ws) ≡ at (i + k) ws
+unfolding number_at
+in_rest at of_pattern is i k ws = is k (drop i ws) ∙ ap of_pattern (get_or-drop i ws k 0) ∙ sym (is (i + k) ws)
 
--- a loop that fills: one turn, and the end
-module _ (f : ℕ → Float) (i : ℕ) (x : List Float) (k : ℕ) where
-  pub fill_next : {v : Float} → k < length x → v ≡ f (i + k) → take k x ≡ from_place f i k → take (k + 1) (set x k v) ≡ from_place f i (k + 1)
-  fill_next {v} h e s = rw (add-one, take-suc-set x k v h, s, from_place_more, e)
+module _ {A : Type 0} (f : ℕ → A) where
+  pub length_from_place : (i n : ℕ) → length (from_place f i n) ≡ n
+  unfolding from_place
+  length_from_place i zero = refl
+  length_from_place i (suc n) = ap suc (length_from_place (i + 1) n)
 
-  pub fill_end : (n : ℕ) → length x ≡ n → k ≡ n → take k x ≡ from_place f i k → x ≡ from_place f i n
-  fill_end n l e s = rw (← e) (sym (take_all k x (omega arith)) ∙ s)
+  pub from_place_at : (i n k : ℕ) (d : A) → k < n → get_or (from_place f i n) k d ≡ f (i + k)
+  unfolding from_place
+  from_place_at i zero k d h = absurd (omega arith)
+  from_place_at i (suc n) zero d h = let e : i ≡ i + 0 = omega arith in ap f e
+  from_place_at i (suc n) (suc k) d h = let e : i + 1 + k ≡ i + suc k = omega arith in from_place_at (i + 1) n k d (omega arith) ∙ ap f e
 
--- a place of the rest of a line
-module _ (i k : ℕ) (ws : List ℕ) {part : List ℕ} (e : part ≡ drop i ws) where
-  number_rest : number_at k part ≡ number_at (i + k) ws
-  unfolding number_at
-  number_rest = rw e (get_or-drop i ws k 0)
+  -- n places more and one
+  from_place_more : (i n : ℕ) → from_place f i (suc n) ≡ from_place f i n ++ (f (i + n) ∷ [])
+  unfolding from_place
+  from_place_more i zero = rw (add-zero i)
+  from_place_more i (suc n) =
+      let e : i + 1 + n ≡ i + suc n = omega arith in
+      ap (λ (l : List A). f i ∷ l) (from_place_more (i + 1) n ∙ rw e)
 
-  pub float64_rest : {v : Float} → v ≡ float64_at k part → v ≡ float64_at (i + k) ws
-  unfolding float64_at
-  float64_rest h = h ∙ ap (of_bits binary64) number_rest
+  -- a loop that fills: one turn, and the end
+  module _ (i : ℕ) (x : List A) (k : ℕ) where
+    pub fill_next : {v : A} → k < length x → v ≡ f (i + k) → take k x ≡ from_place f i k → take (k + 1) (set x k v) ≡ from_place f i (k + 1)
+    fill_next {v} h e s = rw (add-one, take-suc-set x k v h, s, from_place_more, e)
 
-  pub float32_rest : {v : Float} → v ≡ float32_at k part → v ≡ float32_at (i + k) ws
-  unfolding float32_at
-  float32_rest h = h ∙ ap (λ (n : ℕ). of_bits binary32 (n % 2 ^ 32)) number_rest
-
-length_from_place : (f : ℕ → Float) (i n : ℕ) → length (from_place f i n) ≡ n
-unfolding from_place
-length_from_place f i zero = refl
-length_from_place f i (suc n) = ap suc (length_from_place f (i + 1) n)
+    pub fill_end : (n : ℕ) → length x ≡ n → k ≡ n → take k x ≡ from_place f i k → x ≡ from_place f i n
+    fill_end n l e s = rw (← e) (sym (take_all k x (omega arith)) ∙ s)
 
 -- the start of a list, filled from place i on, and the list with it
-module _ (list : List Float) (i k : ℕ) (ws : List ℕ) (fits : k ≤ length list) where
-  pub filled_start : {v : List Float} → v ≡ float32s_at i (length (take k list)) ws → take k (v ++ drop k list) ≡ float32s_at i k ws
-  unfolding float32s_at
+module _ {A : Type 0} (f : ℕ → List ℕ → A) (list : List A) (i k : ℕ) (ws : List ℕ) (fits : k ≤ length list) where
+  pub filled_start : {v : List A} → v ≡ values_at f i (length (take k list)) ws → take k (v ++ drop k list) ≡ values_at f i k ws
+  unfolding values_at
   filled_start {v} e =
-      let e' : v ≡ float32s_at i k ws = e ∙ ap (λ (n : ℕ). float32s_at i n ws) (length-take-le k list fits) in
-      rw e' (take_at (float32s_at i k ws) (drop k list) k (length_from_place (λ (n : ℕ). float32_at n ws) i k))
+      let e' : v ≡ values_at f i k ws = e ∙ ap (λ (n : ℕ). values_at f i n ws) (length-take-le k list fits) in
+      rw e' (take_at (values_at f i k ws) (drop k list) k (length_from_place (λ (n : ℕ). f n ws) i k))
 
-  pub filled_length : {v : List Float} → v ≡ float32s_at i (length (take k list)) ws → length (v ++ drop k list) ≡ length list
-  unfolding float32s_at
-  filled_length {v} e = length_front list v k (ap length e ∙ length_from_place (λ (n : ℕ). float32_at n ws) i (length (take k list)))
+  pub filled_length : {v : List A} → v ≡ values_at f i (length (take k list)) ws → length (v ++ drop k list) ≡ length list
+  unfolding values_at
+  filled_length {v} e = length_front list v k (ap length e ∙ length_from_place (λ (n : ℕ). f n ws) i (length (take k list)))
 
--- a loop that compares: one turn, the first number that differs or is missing, and the end
-module _ (expected ws : List ℕ) (k : ℕ) (d : ℕ) (h : k < length expected) where
-  standing_step : k < length ws → standing (drop k expected) (drop k ws) ≡ (eqb (get_or expected k d) (get_or ws k 0) && standing (drop (k + 1) expected) (drop (k + 1) ws))
+-- a loop that compares values with numbers: one turn, a number that differs, and the end; and a line that is too short
+module _ {A : Type 0} (f : A → ℕ) where
+  module _ {xs xs' : List A} {ws ws' : List ℕ} (x : A) (w : ℕ) {n : ℕ} (ex : xs ≡ x ∷ xs') (ew : ws ≡ w ∷ ws') (p : n ≡ f x) where
+    pub standing_next : n ≡ w → length xs ≤ length ws → {r : Bool} → standing (map f xs) ws ≡ r → (length xs' ≤ length ws') × (standing (map f xs') ws' ≡ r)
+    unfolding standing
+    standing_next e l {r} h =
+        let l' : length (x ∷ xs') ≤ length (w ∷ ws') = rw (ex, ew) at l in
+        let h' : (eqb (f x) w && standing (map f xs') ws') ≡ r = rw (ex, ew) at h in
+        (omega arith, rw (eq-eqb (f x) w (sym p ∙ e)) at h')
+
+    pub standing_differs : (n ≡ w → ⊥) → {r : Bool} → standing (map f xs) ws ≡ r → false ≡ r
+    unfolding standing
+    standing_differs e {r} h =
+        let h' : (eqb (f x) w && standing (map f xs') ws') ≡ r = rw (ex, ew) at h in
+        rw (ne_eqb (f x) w (λ q. e (p ∙ q))) at h'
+
+  pub standing_short : (xs : List A) (ws : List ℕ) → length ws < length xs → standing (map f xs) ws ≡ false
   unfolding standing
-  standing_step h' = rw (add-one, drop-cons expected k d h, drop-cons ws k 0 h')
+  standing_short [] ws h = absurd (omega arith)
+  standing_short (x ∷ xs) [] h = refl
+  standing_short (x ∷ xs) (w ∷ ws) h = elim (eqb (f x) w) as (λ (t : Bool). (t && standing (map f xs) ws) ≡ false) [ true ↦ standing_short xs ws (omega arith) | false ↦ refl ]
 
-  pub standing_next : k < length ws → get_or expected k d ≡ get_or ws k 0 → standing (drop (k + 1) expected) (drop (k + 1) ws) ≡ standing (drop k expected) (drop k ws)
-  standing_next h' e = sym (standing_step h' ∙ rw (eq-eqb (get_or expected k d) (get_or ws k 0) e) refl)
-
-  pub standing_differs : k < length ws → (get_or expected k d ≡ get_or ws k 0 → ⊥) → standing (drop k expected) (drop k ws) ≡ false
-  standing_differs h' e = standing_step h' ∙ rw (ne_eqb (get_or expected k d) (get_or ws k 0) e) refl
-
-  pub standing_missing : length ws ≤ k → standing (drop k expected) (drop k ws) ≡ false
+  pub standing_end : (xs : List A) (ws : List ℕ) → length xs ≤ length ws → (xs ≡ []) ⊎ (ws ≡ []) → standing (map f xs) ws ≡ true
   unfolding standing
-  standing_missing h' = rw (drop-cons expected k d h, drop_of_length-le ws h')
-
-pub standing_end : (expected ws : List ℕ) (k : ℕ) → length expected ≤ k → standing (drop k expected) ws ≡ true
-unfolding standing
-standing_end expected ws k h = rw (drop_of_length-le expected h)
-
--- the same where what is expected are the patterns of a list
-module _ (f : Format) (list : List Float) (ws : List ℕ) (k : ℕ) (d : Float) (h : k < length list) where
-  long : k < length (map (to_bits f) list)
-  long = rw length-map h
-
-  pub patterns_next : {n : ℕ} → k < length ws → n ≡ to_bits f (get_or list k d) → n ≡ get_or ws k 0
-      → standing (drop (k + 1) (map (to_bits f) list)) (drop (k + 1) ws) ≡ standing (drop k (map (to_bits f) list)) (drop k ws)
-  patterns_next h' p e = standing_next (map (to_bits f) list) ws k (to_bits f d) long h' (get_or-map (to_bits f) list k d ∙ sym p ∙ e)
-
-  pub patterns_differ : {n : ℕ} → k < length ws → n ≡ to_bits f (get_or list k d) → (n ≡ get_or ws k 0 → ⊥) → standing (drop k (map (to_bits f) list)) (drop k ws) ≡ false
-  patterns_differ h' p e = standing_differs (map (to_bits f) list) ws k (to_bits f d) long h' (λ q. e (p ∙ sym (get_or-map (to_bits f) list k d) ∙ q))
-
-  pub patterns_missing : length ws ≤ k → standing (drop k (map (to_bits f) list)) (drop k ws) ≡ false
-  patterns_missing h' = standing_missing (map (to_bits f) list) ws k (to_bits f d) long h'
-
-pub patterns_end : (f : Format) (list : List Float) (ws : List ℕ) (k : ℕ) → length list ≤ k → standing (drop k (map (to_bits f) list)) ws ≡ true
-patterns_end f list ws k h = standing_end (map (to_bits f) list) ws k (rw length-map h)
+  standing_end [] ws l h = refl
+  standing_end (x ∷ xs) ws l (inl h) = absurd (cc)
+  standing_end (x ∷ xs) [] l (inr h) = absurd (omega arith)
+  standing_end (x ∷ xs) (w ∷ ws) l (inr h) = absurd (cc)
 
 -- a line begins with numbers where they are those at its start
 standing_is : (expected ws : List ℕ) → standing expected ws ≡ same_numbers expected (take (length expected) ws)
@@ -138,3 +124,10 @@ stands_at_both i n a b ws l =
 pub stands_in_rest : (i : ℕ) (expected ws : List ℕ) {a : List ℕ} {s : Bool} → a ≡ drop i ws → s ≡ stands_at 0 expected a → s ≡ stands_at i expected ws
 unfolding stands_at stretch
 stands_in_rest i expected ws e h = h ∙ ap (λ (l : List ℕ). same_numbers expected (take (length expected) l)) e
+
+pub stands_in_drop : (i : ℕ) (expected ws : List ℕ) → stands_at 0 expected (drop i ws) ≡ stands_at i expected ws
+stands_in_drop i expected ws = stands_in_rest i expected ws refl refl
+
+-- numbers stand as themselves
+pub stands_words : (i : ℕ) (expected ws : List ℕ) → stands_at i (map (λ (n : ℕ). n) expected) ws ≡ stands_at i expected ws
+stands_words i expected ws = ap (λ (l : List ℕ). stands_at i l ws) (map-id expected)

@@ -1,5 +1,6 @@
 -- What only test programs and private functions cite.
 pub mod Words
 pub mod Lines
+pub mod Reads
 pub mod Standing
 pub mod Counts

@@ -1,34 +1,34 @@
 // Outside vectors: a line of standard input is read into lent numbers, in one place (`next_line`), and all that is asked of a line is a function of
-// these numbers (`line`). A word for many numbers is `mix`; how many lines differ is counted and said by `tally`.
+// these numbers (`line`). A word for many numbers is `mix`; how many lines differ is counted and said by `tally`, and `replay` leads a program
+// through all lines.
 #![tactic(auto)]
 
 pub mod line;
 pub mod mix;
+pub mod output;
 pub mod tally;
 
 ghost use Rattle.std.specs.Prelude.{◌≡◌, ◌+◌, ◌<◌, ◌≤◌, length};
 ghost use Rattle.vectors.specs.Code.Words.{digit_of, with_digit, word_at};
 
+use crate::output::Stdout;
+use crate::tally::Tally;
+use std::fmt::Write;
+
 // The value of a hexadecimal digit; any other byte counts as 0.
+#[tactic(auto, using(std::proofs::lemmas::Bool::Decides::nat_tests), unfolding(crate::specs::Code::Words::digit_of))]
 pub fn digit(b: u8) -> u64
     ensures { (result ≡ digit_of b) × (result < 16) }
 {
-    if b < 48 {
-        return 0;
+    match b {
+        b'0'..=b'9' => (b - b'0') as u64,
+        b'a'..=b'f' => (b - b'a' + 10) as u64,
+        _ => 0,
     }
-    if b <= 57 {
-        return (b - 48) as u64;
-    }
-    if b < 97 {
-        return 0;
-    }
-    if b <= 102 {
-        return (b - 87) as u64;
-    }
-    0
 }
 
 // One digit more; of more than 16 the last count.
+#[tactic(auto, unfolding(crate::specs::Code::Words::with_digit))]
 pub fn with_digit(v: u64, b: u8) -> u64
     ensures { result ≡ with_digit v b }
 {
@@ -40,38 +40,26 @@ pub fn word_at(line: &[u8], a: usize) -> u64
     requires { a + 16 ≤ length line.now }
     ensures { result ≡ word_at a line.now }
 {
-    let mut v = 0;
-    let mut i = 0;
-    while i < 16 {
-        v = with_digit(v, line[a + i]);
-        i += 1;
-    }
-    v
+    line[a..a + 16].iter().fold(0, |v, b| with_digit(v, *b))
 }
 
 // What standard input has next: 16 digits and the byte that parts them from what follows, a newline at the end of a line.
 #[derive(Clone, Copy)]
 struct Item {
-    there: bool,
     value: u64,
     last: bool,
 }
 
 // No contract can say what a read brings.
-fn next_item() -> Item {
+fn next_item() -> Option<Item> {
     let mut item = [0u8; 17];
     if io::read_full(0, &mut item) < 17 {
-        return Item {
-            there: false,
-            value: 0,
-            last: true,
-        };
+        return None;
     }
-    Item {
-        there: true,
+    Some(Item {
         value: word_at(&item, 0),
-        last: item[16] == 10,
-    }
+        last: item[16] == b'\n',
+    })
 }
 
 // The next line of standard input: its numbers stand at the start of the lent list, as far as that goes, and the answer is how many, 0 at the end
@@ -81,12 +69,10 @@ pub fn next_line(words: &mut [u64]) -> usize
     ensures { result ≤ length words.old }
 {
     let mut n = 0;
-    let mut read: u64 = 0;
-    while read < 0x1_0000_0000_0000 {
-        let item = next_item();
-        if !item.there {
+    for _ in 0..0x1_0000_0000_0000u64 {
+        let Some(item) = next_item() else {
             break;
-        }
+        };
         if n < words.len() {
             words[n] = item.value;
             n += 1;
@@ -94,7 +80,26 @@ pub fn next_line(words: &mut [u64]) -> usize
         if item.last {
             break;
         }
-        read += 1;
     }
     n
+}
+
+// Decides each line of standard input, says which differ, and at the end how many. Of a line as many numbers are read as the lent list holds. (No
+// input has as many lines as the bound.)
+pub fn replay<F: FnMut(&[u64]) -> bool>(words: &mut [u64], mut agrees: F)
+    requires { F.IsAlwaysCallable agrees }
+{
+    let mut t = Tally::default();
+    for _ in 0..100_000_000u32 {
+        let n = next_line(words);
+        if n == 0 {
+            break;
+        }
+        let right = agrees(&words[..n]);
+        t.count(right);
+        if !right {
+            let _ = writeln!(Stdout, "{} differs", t.lines);
+        }
+    }
+    t.say();
 }

@@ -1,170 +1,204 @@
-// What stands in a line of numbers, and whether given numbers stand there. All are pure functions of the line. A float is told apart by its bits, a
-// NaN as one NaN.
-ghost use Rattle.std.specs.Prelude.{◌≡◌, map, min, length, drop};
+// What stands in a line of numbers, and whether given values stand there. All are pure functions of the line.
+ghost use Rattle.std.specs.Prelude.{◌≡◌, ◌+◌, ◌<◌, ◌≤◌, List, ℕ, eqb, MatchOption, map, length, drop, refl};
 ghost use Rattle.std.specs.Float.{binary32, binary64};
-ghost use Rattle.std.specs.Float.Ieee.{to_bits};
-ghost use Rattle.vectors.specs.Code.Lines.{number_at, mark_at, float64_at, float32_at, float64s_at, float32s_at, stands_at, ends_at};
+ghost use Rattle.std.specs.Float.Ieee.{of_bits, to_bits};
+ghost use Rattle.vectors.specs.Code.Lines.{number_at, mark_number, mark_at, single, float64_at, float32_at, values_at, stands_at, ends_at};
+ghost use Rattle.vectors.specs.Code.Reads.{mark_is, float64_is, float32_is};
 ghost use Rattle.vectors.specs.Code.Standing.{standing};
 
 use ieee754::pattern::{f32_from_bits, f32_to_bits, f64_from_bits, f64_to_bits};
 
-// Number i of the line, 0 behind its end.
-pub fn number(words: &[u64], i: usize) -> u64
-    ensures { result ≡ number_at i words.now }
-{
-    if i < words.len() { words[i] } else { 0 }
+// A value that stands as one number of a line. A float is told apart by its bits, a NaN as one NaN.
+pub trait Word: Copy {
+    // The number that a value stands as, and the value that a number stands for.
+    ghost pattern: { Self → ℕ };
+
+    ghost of_pattern: { ℕ → Self };
+
+    // What stands at a place of a line.
+    ghost at: { ℕ → List ℕ → Self };
+
+    fn pattern(self) -> u64
+        ensures { result ≡ pattern self };
+
+    fn of_pattern(n: u64) -> Self
+        ensures { result ≡ of_pattern n };
+
+    // Behind the line's end every number is 0.
+    final fn at(words: &[u64], i: usize) -> Self
+        ensures { result ≡ at i words.now }
+    {
+        Self::of_pattern(words.get(i).copied().unwrap_or(0))
+    }
+
+    ghost at_is: { (i : ℕ) (ws : List ℕ) → at i ws ≡ of_pattern (number_at i ws) };
 }
 
-pub fn mark(words: &[u64], i: usize) -> bool
-    ensures { result ≡ mark_at i words.now }
-{
-    number(words, i) == 1
+impl Word for u64 {
+    ghost pattern = { λ n. n };
+
+    ghost of_pattern = { λ n. n };
+
+    ghost at = { number_at };
+
+    ghost at_is = { λ i ws. refl };
+
+    fn pattern(self) -> u64 {
+        self
+    }
+
+    fn of_pattern(n: u64) -> u64 {
+        n
+    }
 }
 
-pub fn float64(words: &[u64], i: usize) -> f64
-    ensures { result ≡ float64_at i words.now }
-{
-    f64_from_bits(number(words, i))
+impl Word for usize {
+    ghost pattern = { λ n. n };
+
+    ghost of_pattern = { λ n. n };
+
+    ghost at = { number_at };
+
+    ghost at_is = { λ i ws. refl };
+
+    fn pattern(self) -> u64 {
+        self as u64
+    }
+
+    fn of_pattern(n: u64) -> usize {
+        n as usize
+    }
 }
 
-pub fn float32(words: &[u64], i: usize) -> f32
-    ensures { result ≡ float32_at i words.now }
-{
-    f32_from_bits((number(words, i) % 0x1_0000_0000) as u32)
+// A mark is 1 or 0; it is set where the number is 1.
+impl Word for bool {
+    ghost pattern = { mark_number };
+
+    ghost of_pattern = { λ n. eqb n 1 };
+
+    ghost at = { mark_at };
+
+    ghost at_is = { mark_is };
+
+    fn pattern(self) -> u64 {
+        self as u64
+    }
+
+    fn of_pattern(n: u64) -> bool {
+        n == 1
+    }
 }
 
-// The smaller of the two.
-fn least(a: usize, b: usize) -> usize
-    ensures { result ≡ min a b }
-{
-    if a < b { a } else { b }
+impl Word for f64 {
+    ghost pattern = { to_bits binary64 };
+
+    ghost of_pattern = { of_bits binary64 };
+
+    ghost at = { float64_at };
+
+    ghost at_is = { float64_is };
+
+    fn pattern(self) -> u64 {
+        f64_to_bits(self)
+    }
+
+    fn of_pattern(n: u64) -> f64 {
+        f64_from_bits(n)
+    }
+}
+
+// An f32 stands in the lower half.
+impl Word for f32 {
+    ghost pattern = { to_bits binary32 };
+
+    ghost of_pattern = { single };
+
+    ghost at = { float32_at };
+
+    ghost at_is = { float32_is };
+
+    fn pattern(self) -> u64 {
+        f32_to_bits(self) as u64
+    }
+
+    #[tactic(auto, unfolding(crate::specs::Code::Lines::single))]
+    fn of_pattern(n: u64) -> f32 {
+        f32_from_bits((n % 0x1_0000_0000) as u32)
+    }
 }
 
 // What is left of the line from place i on.
 pub fn rest(words: &[u64], i: usize) -> &[u64]
     ensures { result.now ≡ drop i words.now }
 {
-    let a = least(i, words.len());
+    let a = i.min(words.len());
     &words[a..]
 }
 
-// As many f64 from place i on as the lent list holds.
-fn floats(words: &[u64], i: usize, list: &mut [f64])
-    ensures { list.new ≡ float64s_at i (length list.old) words.now }
+// N values from place i on.
+// Not `array::from_fn`: its contract speaks of calls, and that each gives what stands in the line was not proved.
+pub fn array_at<W: Word, const N: usize>(words: &[u64], i: usize) -> [W; N]
+    ensures { result ≡ values_at W.at i N words.now }
+{
+    let mut list = [W::at(words, i); N];
+    list_at(words, i, &mut list);
+    list
+}
+
+// As many values from place i on as the lent list holds.
+pub fn list_at<W: Word>(words: &[u64], i: usize, list: &mut [W])
+    ensures { list.new ≡ values_at W.at i (length list.old) words.now }
 {
     let part = rest(words, i);
-    let mut k = 0;
-    while k < list.len() {
-        list[k] = float64(part, k);
-        k += 1;
+    for (k, x) in list.iter_mut().enumerate() {
+        *x = W::at(part, k);
     }
 }
 
-// Six f64 from place i on.
-pub fn six(words: &[u64], i: usize) -> [f64; 6]
-    ensures { result ≡ float64s_at i 6 words.now }
+// n values from place i on, at the start of lent memory; none where that is too short for them.
+pub fn listed_at<'a, W: Word>(
+    words: &[u64],
+    i: usize,
+    n: u64,
+    memory: &'a mut [W],
+) -> Option<&'a [W]>
+    ensures { MatchOption result
+        (length memory.old < n)
+        (λ list. (n ≤ length memory.old) × (length list.now ≡ n) × (list.now ≡ values_at W.at i n words.now)) }
 {
-    let mut x = [0.0; 6];
-    floats(words, i, &mut x);
-    x
-}
-
-// 36 f64 from place i on.
-pub fn matrix(words: &[u64], i: usize) -> [f64; 36]
-    ensures { result ≡ float64s_at i 36 words.now }
-{
-    let mut p = [0.0; 36];
-    floats(words, i, &mut p);
-    p
-}
-
-// As many f32 from place i on as the lent list holds.
-pub fn samples(words: &[u64], i: usize, list: &mut [f32])
-    ensures { list.new ≡ float32s_at i (length list.old) words.now }
-{
-    let part = rest(words, i);
-    let mut k = 0;
-    while k < list.len() {
-        list[k] = float32(part, k);
-        k += 1;
+    if (memory.len() as u64) < n {
+        return None;
     }
+    let list = &mut memory[..n as usize];
+    list_at(words, i, list);
+    Some(list)
 }
 
-// Whether the numbers begin with those that are expected.
-fn begins(words: &[u64], expected: &[u64]) -> bool
-    ensures { result ≡ standing expected.now words.now }
+// Whether the numbers begin with those that the values stand as.
+// Not `all` over both: what it answers of pairs of any type was not proved.
+fn begins<W: Word>(words: &[u64], expected: &[W]) -> bool
+    ensures { result ≡ standing (map W.pattern expected.now) words.now }
 {
-    let mut k = 0;
-    while k < expected.len() {
-        if words.len() <= k {
+    if words.len() < expected.len() {
+        return false;
+    }
+    for (x, w) in expected.iter().zip(words) {
+        if x.pattern() != *w {
             return false;
         }
-        if expected[k] != words[k] {
-            return false;
-        }
-        k += 1;
     }
     true
 }
 
-// Whether the expected numbers stand from place i on.
-pub fn stands(words: &[u64], i: usize, expected: &[u64]) -> bool
-    ensures { result ≡ stands_at i expected.now words.now }
+// Whether the expected values stand from place i on.
+pub fn stands<W: Word>(words: &[u64], i: usize, expected: &[W]) -> bool
+    ensures { result ≡ stands_at i (map W.pattern expected.now) words.now }
 {
     begins(rest(words, i), expected)
 }
 
-// Whether the numbers begin with the patterns of a list of f32.
-fn begins_with_samples(words: &[u64], list: &[f32]) -> bool
-    ensures { result ≡ standing (map (to_bits binary32) list.now) words.now }
-{
-    let mut k = 0;
-    while k < list.len() {
-        if words.len() <= k {
-            return false;
-        }
-        let pattern = f32_to_bits(list[k]) as u64;
-        if pattern != words[k] {
-            return false;
-        }
-        k += 1;
-    }
-    true
-}
-
-// Whether the patterns of a list of f32 stand from place i on.
-pub fn samples_stand(words: &[u64], i: usize, list: &[f32]) -> bool
-    ensures { result ≡ stands_at i (map (to_bits binary32) list.now) words.now }
-{
-    begins_with_samples(rest(words, i), list)
-}
-
-// Whether the numbers begin with the patterns of a list of f64.
-fn begins_with_floats(words: &[u64], list: &[f64]) -> bool
-    ensures { result ≡ standing (map (to_bits binary64) list.now) words.now }
-{
-    let mut k = 0;
-    while k < list.len() {
-        if words.len() <= k {
-            return false;
-        }
-        let pattern = f64_to_bits(list[k]);
-        if pattern != words[k] {
-            return false;
-        }
-        k += 1;
-    }
-    true
-}
-
-// Whether the patterns of a list of f64 stand from place i on.
-pub fn floats_stand(words: &[u64], i: usize, list: &[f64]) -> bool
-    ensures { result ≡ stands_at i (map (to_bits binary64) list.now) words.now }
-{
-    begins_with_floats(rest(words, i), list)
-}
-
 // Whether the line has just i numbers.
+#[tactic(auto, unfolding(crate::specs::Code::Lines::ends_at))]
 pub fn ends(words: &[u64], i: usize) -> bool
     ensures { result ≡ ends_at i words.now }
 {

@@ -1,52 +1,29 @@
 // A word that stands for many numbers.
 ghost use Rattle.std.specs.Prelude.{◌≡◌};
 ghost use Rattle.sequences.specs.Folds.{fold};
-ghost use Rattle.vectors.specs.Code.Words.{mixed_number, mixed, mixed32};
+ghost use Rattle.vectors.specs.Code.Words.{mixed_number, mixed_by};
 
-use ieee754::pattern::{f32_to_bits, f64_to_bits};
+use crate::line::Word;
 
 // One number more.
+#[tactic(auto, unfolding(crate::specs::Code::Words::mixed_number))]
 fn mix_number(sum: u64, n: u64) -> u64
     ensures { result ≡ mixed_number sum n }
 {
     sum % 0x7ff_ffff_ffff_ffc9 * 31 + n % 0x7ff_ffff_ffff_ffc9
 }
 
-// One f64 more.
-pub fn mix(sum: u64, x: f64) -> u64
-    ensures { result ≡ mixed sum x }
+// One value more, by the number that it stands as.
+#[tactic(auto, unfolding(crate::specs::Code::Words::mixed_by))]
+pub fn mix<W: Word>(sum: u64, x: W) -> u64
+    ensures { result ≡ mixed_by W.pattern sum x }
 {
-    mix_number(sum, f64_to_bits(x))
-}
-
-// One f32 more.
-fn mix_sample(sum: u64, x: f32) -> u64
-    ensures { result ≡ mixed32 sum x }
-{
-    mix_number(sum, f32_to_bits(x) as u64)
+    mix_number(sum, x.pattern())
 }
 
 // A list's word.
-pub fn mix_all(start: u64, list: &[f64]) -> u64
-    ensures { result ≡ fold mixed start list.now }
+pub fn mix_all<W: Word>(start: u64, list: &[W]) -> u64
+    ensures { result ≡ fold (mixed_by W.pattern) start list.now }
 {
-    let mut sum = start;
-    let mut i = 0;
-    while i < list.len() {
-        sum = mix(sum, list[i]);
-        i += 1;
-    }
-    sum
-}
-
-pub fn mix_samples(start: u64, list: &[f32]) -> u64
-    ensures { result ≡ fold mixed32 start list.now }
-{
-    let mut sum = start;
-    let mut i = 0;
-    while i < list.len() {
-        sum = mix_sample(sum, list[i]);
-        i += 1;
-    }
-    sum
+    list.iter().fold(start, |sum, x| mix(sum, *x))
 }

@@ -1,51 +1,37 @@
 // How many lines were decided and how many of them differ: counted, and said on standard output.
 ghost use Rattle.std.specs.Prelude.{◌≡◌};
-ghost use Rattle.vectors.specs.Code.Counts.{one_more, with_line};
 
-// The descriptor of standard output.
-const STDOUT: i32 = 1;
+use crate::output::Stdout;
+use std::fmt::{self, Write};
 
-#[derive(Clone, Copy)]
+#[derive(Clone, Copy, Default)]
 pub struct Tally {
     pub lines: u64,
     pub differ: u64,
 }
 
-// One more; at the largest u64 it stays there.
-fn one_more(n: u64) -> u64
-    ensures { result ≡ one_more n }
-{
-    if n < 0xffff_ffff_ffff_ffff { n + 1 } else { n }
-}
+impl Tally {
+    ghost use Rattle.vectors.specs.Code.Counts.{with_line};
 
-// A line that differs is told by its number.
-fn say_differs(n: u64) {
-    io::print_decimal(STDOUT, n);
-    io::write_all(STDOUT, b" differs\n");
-}
-
-// One line more, which agrees or differs.
-pub fn counted(t: Tally, agrees: bool) -> Tally
-    ensures { result ≡ with_line t agrees }
-{
-    let lines = one_more(t.lines);
-    if agrees {
-        return Tally {
-            lines,
-            differ: t.differ,
-        };
+    // One line more, which agrees or differs. (At the largest u64 a count stays there.)
+    #[tactic(auto, unfolding(crate::specs::Code::Counts::one_more, crate::specs::Code::Counts::with_line))]
+    pub fn count(&mut self, agrees: bool)
+        ensures { self.new ≡ with_line self.old agrees }
+    {
+        self.lines = self.lines.saturating_add(1);
+        if !agrees {
+            self.differ = self.differ.saturating_add(1);
+        }
     }
-    say_differs(lines);
-    Tally {
-        lines,
-        differ: one_more(t.differ),
+
+    // The result.
+    pub fn say(&self) {
+        let _ = writeln!(Stdout, "{self}");
     }
 }
 
-// The result.
-pub fn say(t: Tally) {
-    io::print_decimal(STDOUT, t.lines);
-    io::write_all(STDOUT, b" vectors, ");
-    io::print_decimal(STDOUT, t.differ);
-    io::write_all(STDOUT, b" differ\n");
+impl fmt::Display for Tally {
+    fn fmt<W: fmt::Write>(&self, f: &mut fmt::Formatter<W>) -> fmt::Result {
+        write!(f, "{} vectors, {} differ", self.lines, self.differ)
+    }
 }

@@ -3,13 +3,13 @@
 use Prim.Native.Nat.{ℕ}
 use mathlib.Core.Path.{◌≡◌, refl, ap, ◌∙◌}
 use mathlib.Core.List.{List, [], ◌∷◌, ◌++◌}
-use mathlib.Core.Option.{Option, some, bind}
+use Rattle.std.specs.Prelude.{Option, Some}
 use lib.ListN.{length, replicate, length-replicate}
 use lib.Ieee.{Float, of_bits, to_bits}
 use Rattle.ieee754.specs.Binary64 as float
 use Rattle.sequences.specs.Folds.{fold, every}
 use Rattle.channel_model.specs.declared.Channel.{Channel}
-use Rattle.channel_model.specs.declared.Returned.{Returned}
+use Rattle.channel_model.specs.Returns.{Returned}
 use Rattle.channel_model.specs.Opening.{new_channel, refused_settings}
 use Rattle.channel_model.specs.Answers.{answer_of}
 use Rattle.channel_model.specs.Blocks.{Outcome, untouched, blocked}
@@ -55,8 +55,8 @@ names_taken c w l = refl
 abbrev values : List ℕ
 values = 40000 ∷ 1 ∷ 0 ∷ 1 ∷ 1 ∷ 1 ∷ 5 ∷ 0 ∷ 137500000 ∷ []
 
-values_read : values_line values_text ≡ some values
-unfolding values_text values_line nine_values decimals bind line_fields fields onto whole_line decimal_of decimal_shape number_of every fold is_digit digit_value
+values_read : values_line values_text ≡ Some values
+unfolding values_text values_line nine_values decimals line_fields fields onto whole_line decimal_of decimal_shape number_of every fold is_digit digit_value
 values_read = refl
 
 readied_is : readied values ≡ record { refusal = 0; channel = assigned_channel }
@@ -77,7 +77,7 @@ block_names_taken c w l = refl
 -- ---- a block's line
 
 module _ (line block flag : ℕ) (text : List ℕ) (c d : Channel) (s : Shown) (w : List Float) (l : List ℕ) where
-  block_taken_lem : flag_and_samples text ≡ some (flag, []) → blocked c (no_samples flag) w ≡ untouched d (no_samples flag) w → shown_of (answer_of d) ≡ s
+  block_taken_lem : flag_and_samples text ≡ Some (flag, []) → blocked c (no_samples flag) w ≡ untouched d (no_samples flag) w → shown_of (answer_of d) ≡ s
       → further (run Blocks line block c w l) text ≡ run Blocks (counted line) (counted block) d w (l ++ block_text (counted block) s)
   unfolding further judged block_judged answered untouched refused_or block_taken answer_of
   block_taken_lem read call shows =
@@ -86,16 +86,16 @@ module _ (line block flag : ℕ) (text : List ℕ) (c d : Channel) (s : Shown) (
       ∙ ap (λ (o : Outcome Channel). listed l (answered o p)) call
       ∙ ap (λ (t : Shown). run Blocks (counted line) (counted block) d w (l ++ block_text (counted block) t)) shows
 
-read_0 : flag_and_samples (bytes "0 -\n") ≡ some (0, [])
-unfolding flag_and_samples two_fields bind samples_of same line_fields fields onto whole_line decimal_of decimal_shape number_of every fold is_digit digit_value
+read_0 : flag_and_samples (bytes "0 -\n") ≡ Some (0, [])
+unfolding flag_and_samples two_fields samples_of same line_fields fields onto whole_line decimal_of decimal_shape number_of every fold is_digit digit_value
 read_0 = refl
 
-read_1 : flag_and_samples (bytes "1 -\n") ≡ some (1, [])
-unfolding flag_and_samples two_fields bind samples_of same line_fields fields onto whole_line decimal_of decimal_shape number_of every fold is_digit digit_value
+read_1 : flag_and_samples (bytes "1 -\n") ≡ Some (1, [])
+unfolding flag_and_samples two_fields samples_of same line_fields fields onto whole_line decimal_of decimal_shape number_of every fold is_digit digit_value
 read_1 = refl
 
-read_3 : flag_and_samples (bytes "3 -\n") ≡ some (3, [])
-unfolding flag_and_samples two_fields bind samples_of same line_fields fields onto whole_line decimal_of decimal_shape number_of every fold is_digit digit_value
+read_3 : flag_and_samples (bytes "3 -\n") ≡ Some (3, [])
+unfolding flag_and_samples two_fields samples_of same line_fields fields onto whole_line decimal_of decimal_shape number_of every fold is_digit digit_value
 read_3 = refl
 
 -- ---- the whole text

@@ -6,7 +6,7 @@ use lib.Ieee.{binary64, of_bits, to_unsigned}
 use borrow.Author.Tests.{le-ltb}
 use Rattle.ieee754.specs.Binary64.{times, over}
 use Rattle.channel_model.specs.declared.Settings.{Settings}
-use Rattle.channel_model.specs.declared.Returned.{Returned}
+use Rattle.channel_model.specs.Returns.{Returned}
 use Rattle.channel_model.specs.Refusals.{first_cause}
 use Rattle.channel_model.specs.Opening.{bad_rate, bad_ratio, open_refusal, whole, decimated_rate, fade_steps, new_channel, refused_settings, opened}
 use Rattle.worked_values.specs.Table.{RestGood}

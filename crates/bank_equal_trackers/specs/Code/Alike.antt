@@ -1,23 +1,9 @@
 -- Three trackers of a bank that are equal with all that is theirs (the scope, module 7). Tracker i has the stretch 2,048 × (i + 1) of the window
 -- memory. Definitions only.
-use Rattle.std.specs.Prelude.{ℕ, Bool, ◌≡◌, List, [], ◌∷◌, Float}
+use Rattle.std.specs.Prelude.{◌≡◌, List, Float}
 use Rattle.sequences.specs.Stretches.{stretch, within}
-use Rattle.tracker.specs.declared.state.CarrierPllEkf.{CarrierPllEkf}
 use Rattle.tracker.specs.declared.state.Tracked.{Tracked}
 use Rattle.tracker_model.specs.Following.{TrackerWindow}
-
--- the parts of a tracker besides its states and its modulation: floats, counts, marks
-abbrev pub floats_of : CarrierPllEkf → List Float
-floats_of t =
-    let k = t.tuning in
-    k.q_phase ∷ k.q_freq ∷ k.q_chirp ∷ k.r_meas ∷ k.ts ∷ k.frequency_ratio ∷ t.envelope_ema
-    ∷ t.power.sum_abs_i ∷ t.power.sum_q_sq ∷ t.lock_metric ∷ []
-
-abbrev pub counts_of : CarrierPllEkf → ℕ × ℕ
-counts_of t = (t.power.pushed, t.convergence_guard)
-
-abbrev pub switches_of : CarrierPllEkf → Bool × Bool × Bool
-switches_of t = (t.is_locked, t.tuning.adaptive_ekf, t.tuning.dual_lock)
 
 -- the stretches of the three trackers are equal
 pub record Level (w : List Float) : Type 0 where

@@ -8,4 +8,4 @@ abbrev pub one_more : ℕ → ℕ
 one_more n = n % 2 ^ 32 + 1
 
 unfoldable pub with_case : Group → List ℕ → Group
-with_case g case = record { titled = g.titled; good = cond (case_holds case) (one_more g.good) g.good; all = one_more g.all }
+with_case g case = record { good = cond (case_holds case) (one_more g.good) g.good; all = one_more g.all }

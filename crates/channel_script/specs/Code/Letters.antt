@@ -1,5 +1,5 @@
 -- Tables of letters. Definitions only.
-use Rattle.std.specs.Prelude.{cond, List, [], ◌∷◌, ℕ, eqb}
+use Rattle.std.specs.Prelude.{cond, List, [], ◌∷◌, ℕ, eqb, Option, Some, None}
 use Prim.Native.Char.{code}
 use Prim.Native.String.{String, [] as empty, ◌∷◌ as ◌then◌}
 
@@ -7,6 +7,11 @@ use Prim.Native.String.{String, [] as empty, ◌∷◌ as ◌then◌}
 unfoldable pub stands_for {ℓ} : {A : Type ℓ} → ℕ → List (ℕ × A) → A → A
 stands_for b [] other = other
 stands_for b (entry ∷ rest) other = cond (eqb b entry.0) entry.1 (stands_for b rest other)
+
+-- the same, and nothing where the letter is not in it
+unfoldable pub found : {A : Type 0} → ℕ → List (ℕ × A) → Option A
+found b [] = None
+found b (entry ∷ rest) = cond (eqb b entry.0) (Some entry.1) (found b rest)
 
 -- the letters of a text, as bytes
 abbrev pub letters : String → List ℕ

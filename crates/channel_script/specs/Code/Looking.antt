@@ -1,6 +1,6 @@
 -- What is looked at in a session, by a letter, or by a place and a letter: a number each, a mark as 0 or 1. In quotation marks stands what the text of
 -- the cases says at its head. Definitions only.
-use Rattle.std.specs.Prelude.{Bool, cond, List, [], ◌∷◌, ◌++◌, map, ℕ, ◌+◌, eqb, pos, get_or, Float}
+use Rattle.std.specs.Prelude.{Bool, cond, List, [], ◌∷◌, ◌++◌, map, ℕ, ◌+◌, eqb, pos, get_or, Float, Option, None}
 use Prim.Native.Char.{code}
 use Rattle.std.specs.Float.{nan, binary32, binary64}
 use Rattle.std.specs.Float.Ieee.{add, ne, of_int}
@@ -13,7 +13,7 @@ use Rattle.channel_model.specs.declared.Channel.{Channel}
 use Rattle.channel_model.specs.Figures.{figures}
 use Rattle.channel_script.specs.declared.session.Seen.{Seen}
 use Rattle.channel_script.specs.declared.session.Session.{Session}
-use Rattle.channel_script.specs.Code.Letters.{stands_for, letters}
+use Rattle.channel_script.specs.Code.Letters.{stands_for, found, letters}
 
 -- what a name that stands for nothing has: no number, which equals none
 abbrev pub nothing : Float
@@ -98,6 +98,14 @@ one_letter e c =
 abbrev pub tracker_names : CarrierPllEkf → List (ℕ × Float)
 tracker_names t =
     (code "L", mark t.is_locked) ∷ (code "M", t.lock_metric) ∷ (code "P", get_or t.x 0 nothing) ∷ (code "H", over (get_or t.x 0 nothing) two) ∷ []
+
+-- what a letter stands for in the tracker of a place
+unfoldable pub found_in_tracker : Channel → ℕ → ℕ → Option Float
+found_in_tracker c place b =
+    cond (eqb place (code "0")) (found b (tracker_names c.bank.t0.ekf))
+    (cond (eqb place (code "1")) (found b (tracker_names c.bank.t1.ekf))
+    (cond (eqb place (code "2")) (found b (tracker_names c.bank.t2.ekf))
+    (cond (eqb place (code "3")) (found b (tracker_names c.pll.ekf)) None)))
 
 -- "A place, 0 to 2 or 3 for pll_tracker", and a letter
 unfoldable pub in_tracker : Channel → ℕ → ℕ → Float

@@ -7,7 +7,7 @@ use Rattle.channel_model.specs.declared.Answer.{Answer}
 use Rattle.channel_model.specs.declared.Settings.{Settings}
 use Rattle.channel_model.specs.declared.Carriers.{Carriers}
 use Rattle.channel_model.specs.declared.Channel.{Channel}
-use Rattle.channel_model.specs.declared.Returned.{Returned}
+use Rattle.channel_model.specs.Returns.{Returned}
 use Rattle.channel_model.specs.Opening.{opened}
 use Rattle.channel_model.specs.Assigning.{assigned}
 use Rattle.channel_model.specs.Releasing.{released}

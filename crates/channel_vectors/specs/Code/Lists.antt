@@ -1,11 +1,9 @@
 -- The lists of a block's line as they stand in lent memory. Definitions only.
-use Rattle.std.specs.Prelude.{false, List, take, Float}
+use Rattle.std.specs.Prelude.{true, List, take, Float, Option, Some, None}
 use Rattle.channel_vectors.specs.declared.lists.Lists.{Lists}
-use Rattle.channel_vectors.specs.Code.Blocks.{Given}
+use Rattle.channel_vectors.specs.Code.Blocks.{Given, not_taken}
 
--- the start of each memory
-unfoldable pub given_in : Lists → List Float → List Float → Given
-given_in r first second = record { taken = r.taken; first = take r.first first; second = take r.second second; behind = r.behind }
-
-unfoldable pub no_lists : Lists
-no_lists = record { taken = false; first = 0; second = 0; behind = 0 }
+-- the start of each memory; a line is not taken where there are none
+unfoldable pub given_in : Option Lists → List Float → List Float → Given
+given_in None first second = not_taken
+given_in (Some r) first second = record { taken = true; first = take r.first first; second = take r.second second; behind = r.behind }

@@ -3,8 +3,8 @@ use mathlib.Core.Path.{sym, subst}
 use Prim.Native.Nat.{ℕ, ◌+◌, ◌*◌, ◌/◌, ◌%◌, ◌^◌, ◌<◌}
 use native.Mathlib.Omega.{arith}
 use lib.Dec.{lit<}
-use Rattle.elementary_reduction.specs.Code.Limbs.{Held}
-use Rattle.elementary_reduction.proofs.ShiftedBits.{held, low_lt, high_lt, low_is, high_is, start, finish, finish_far}
+use Rattle.elementary_reduction.specs.Code.Rests.{Held}
+use Rattle.elementary_reduction.proofs.ShiftedBits.{low_lt, high_lt, low_is, high_is, start, finish, finish_far}
 use Rattle.elementary_reduction.proofs.shifted.Goals.{After-remainder-r}
 use Rattle.elementary_reduction.proofs.shifted.Goals as goal
 
@@ -24,19 +24,13 @@ remainder-r-requires c =
       subst (λ (z : ℕ). z < 2 ^ 60) (sym (high_is a.m a.n c.requires.0)) (high_lt a.m a.n c.requires.0),
     )
 
-pub upper-requires : goal.upper-requires
-upper-requires c = held _ c.remainder-r.result c.remainder-r.ensures
-
 pub returns-then-n-lt20 : goal.returns-then-n-lt20
 returns-then-n-lt20 c =
     finish c.args.m c.args.n c.upper.result c.remainder-r.result c.if-n-lt20.true (first (goal.at.returns-then-n-lt20 c).After-remainder-r) c.upper.ensures
 
-pub shifted-t-requires : goal.shifted-t-requires
-shifted-t-requires c = (held _ c.remainder-r.result c.remainder-r.ensures, few c.args.n c.requires.1)
-
-pub upper-requires-2 : goal.upper-requires-2
-upper-requires-2 c = held _ c.shifted-t.result c.shifted-t.ensures
+pub shifted-requires : goal.shifted-requires
+shifted-requires c = few c.args.n c.requires.1
 
 pub returns : goal.returns
 returns c =
-    finish_far c.args.m c.args.n c.upper-2.result c.remainder-r.result c.shifted-t.result (first (goal.at.returns c).After-remainder-r) c.shifted-t.ensures c.upper-2.ensures
+    finish_far c.args.m c.args.n c.upper-2.result c.remainder-r.result c.shifted.result (first (goal.at.returns c).After-remainder-r) c.shifted.ensures c.upper-2.ensures

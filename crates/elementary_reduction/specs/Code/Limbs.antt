@@ -1,14 +1,10 @@
 -- Module 2: numbers of four limbs, and the remainder by the turn in limbs of 41 bits. Definitions only.
 use Rattle.std.specs.Prelude.{◌≡◌, ℕ, ◌+◌, ◌*◌, ◌%◌, ◌^◌, ◌<◌}
-use Rattle.elementary_reduction.specs.declared.limbs.Rest.{Rest}
 use Rattle.elementary_reduction.specs.Reduction.{turn}
 
 -- in the base B, the lowest limb first
 unfoldable pub limbs : ℕ → ℕ → ℕ → ℕ → ℕ → ℕ
 limbs B w0 w1 w2 w3 = ((w3 * B + w2) * B + w1) * B + w0
-
-abbrev pub value : Rest → ℕ
-value r = limbs (2 ^ 41) r.w0 r.w1 r.w2 r.w3
 
 -- the four limbs are v's remainder by the turn
 pub record RestLimbs (v w0 w1 w2 w3 : ℕ) : Type 0 where
@@ -17,6 +13,3 @@ pub record RestLimbs (v w0 w1 w2 w3 : ℕ) : Type 0 where
   pub fits1 : w1 < 2 ^ 41
   pub fits2 : w2 < 2 ^ 41
   pub fits3 : w3 < 2 ^ 40
-
-abbrev pub Held : ℕ → Rest → Type 0
-Held v r = RestLimbs v r.w0 r.w1 r.w2 r.w3

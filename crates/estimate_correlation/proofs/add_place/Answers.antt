@@ -1,36 +1,24 @@
--- `estimate_correlation::add_place` meets its contract: before turn i the first i rows are done, the others are as they came. Assumes nothing.
-use mathlib.Core.Path.{◌≡◌, refl, ap, sym, ◌∙◌}
-use Prim.Native.Nat.{ℕ, ◌*◌, ◌-◌, ◌<◌}
-use native.Mathlib.Omega.{arith}
-use lib.ListN.{length, length-drop}
-use Rattle.estimate_correlation.specs.Code.RunningSums.{row_added}
-use Rattle.estimate_correlation.proofs.RowLaws.{rows_start, rows_take, rows_drop, rows_length, rows_end}
-use Rattle.estimate_correlation.proofs.UpperLaws.{row_joined, row_added_lem, length_row}
-use borrow.Author.Rules.{rules}
+-- `add_place`: row i is done now, and no other row changed.
+use Rattle.std.proofs.Common.{List, [], ap, ◌∙◌, arith, length-set, get_or-set_same, get_or-set_other}
+use native.Mathlib.Decide.{ℕ_discrete}
+use Rattle.std.specs.Float.{binary64}
+use Rattle.sums.specs.declared.complex.Complex.{Complex}
+use Rattle.sums.specs.Complex.{add_c, mul_c, conj}
+use Rattle.sums.specs.Interleaved.{number}
 use Rattle.estimate_correlation.proofs.add_place.Goals as goal
-
-pub loop-i-init : goal.loop-i-init
-loop-i-init c = (rows_start _, search rules, search rules, refl)
 
 pub loop-i-preserved : goal.loop-i-preserved
 loop-i-preserved c =
-    let s = c.args in
-    let a₀ = s.sums.now in
-    let w = s.w.now in
-    let a = c.loop-i.sums in
-    let i = c.loop-i.i in
-    let f = row_added a₀ w in
-    let done = c.loop-i.invariant.0 in
-    let same = c.loop-i.invariant.3 in
-    let lt : i < 10 = omega arith in
-    let la : length a ≡ 200 = c.loop-i.invariant.2 in
-    let ev = row_added_lem a a₀ w i _ lt la same c.add_to_row.ensures in
-    let lf : length (f i) ≡ 20 = length_row a₀ w i lt (ap length (sym same) ∙ length-drop (20 * i) a ∙ ap (λ (z : ℕ). z - 20 * i) la) in (
-      rw (row_joined a a₀ w i _ lt la same) (rows_take f i a a₀ lt la lf done same ev),
-      omega arith,
-      rw (row_joined a a₀ w i _ lt la same) (rows_length f i a a₀ lt la lf done same ev),
-      rw (row_joined a a₀ w i _ lt la same) (rows_drop f i a a₀ lt la lf done same ev),
+    let l = c.loop-i in
+    let w = c.args.window.now in (
+      simp length-set l.invariant.0,
+      λ k j lt le ltj. elim (ℕ_discrete k l.i) [
+        | yes e ↦
+            rw e
+            (ap (λ (r : List Complex). number r j) (get_or-set_same l.sums l.i _ [] (omega arith))
+            ∙ c.add_to_row.ensures j (omega arith) ltj
+            ∙ ap (λ (r : List Complex). add_c binary64 (number r j) (mul_c binary64 (number w l.i) (conj (number w j)))) (l.invariant.2 l.i (omega arith)))
+        | no ne ↦ ap (λ (r : List Complex). number r j) (get_or-set_other l.sums l.i k _ [] ne) ∙ l.invariant.1 k j (omega arith) le ltj
+      ],
+      λ k h. get_or-set_other l.sums l.i k _ [] (λ e. omega arith) ∙ l.invariant.2 k (omega arith),
     )
-
-pub returns : goal.returns
-returns c = rows_end _ c.loop-i.i _ c.loop-i.invariant.0 (omega arith) (omega arith) c.loop-i.invariant.2

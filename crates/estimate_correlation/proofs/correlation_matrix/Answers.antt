@@ -1,24 +1,20 @@
--- `estimate_correlation::correlation_matrix` meets its contract: before turn p the first p entries stand in the table. Assumes nothing.
-use mathlib.Core.Path.{◌∙◌}
-use native.Mathlib.Omega.{arith}
-use lib.ListN.{length-set}
-use Rattle.sums.proofs.Tables.{table_start, table_next, table_end}
-use Rattle.estimate_correlation.specs.Correlation.{prepared, correlation_matrix}
-use Rattle.estimate_correlation.proofs.UpperLaws.{mirrored_is, quotient_is}
-use borrow.Author.Rules.{rules}
+-- `correlation_matrix`: the sums begin at zero, and each mean is that of its lags.
+use Rattle.std.proofs.Common.{rules}
+use Rattle.estimate_correlation.specs.Correlation.{prepared}
+use Rattle.estimate_correlation.specs.Code.RunningSums.{UpperSums}
+use Rattle.estimate_correlation.proofs.UpperLaws.{upper_none, matrix_is}
+use Rattle.estimate_correlation.proofs.correlation_matrix.Goals.{then-squared, else-squared}
 use Rattle.estimate_correlation.proofs.correlation_matrix.Goals as goal
 
-pub loop-p-init : goal.loop-p-init
-loop-p-init c = (table_start _, search rules, search rules)
+pub add_places-requires-clause-none : goal.add_places-requires-clause-none
+add_places-requires-clause-none c = upper_none _
 
-pub loop-p-preserved : goal.loop-p-preserved
-loop-p-preserved c =
-    let a = c.args in
-    let sum = c.entry-t.ensures ∙ mirrored_is (prepared a.squared a.x.now) a.l c.loop-p.p (omega arith) c.upper_sums-s.ensures in
-    (table_next _ _ _ (omega arith) c.loop-p.invariant.0 (quotient_is _ sum c.u64_to_f64-n.ensures), omega arith, simp length-set (omega arith))
+pub add_places-requires-else-squared-clause-none : goal.add_places-requires-else-squared-clause-none
+add_places-requires-else-squared-clause-none c = upper_none _
 
 pub returns : goal.returns
-unfolding correlation_matrix
 returns c =
-    let l = c.loop-p in
-    table_end _ l.p 100 _ l.invariant.0 (omega arith) (omega arith) l.invariant.2
+    let a = c.args in
+    let xs = prepared a.squared a.x.now in
+    let sums : UpperSums xs a.l c.if-squared.r_xx = elim c.if-squared.branch [ then-squared w ↦ search rules | else-squared w ↦ search rules ] in
+    matrix_is xs a.l c.if-squared.r_xx sums c.complete.new.sums c.u64_to_f64.ensures c.complete.ensures

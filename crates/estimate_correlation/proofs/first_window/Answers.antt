@@ -1,24 +1,13 @@
--- `estimate_correlation::first_window` meets its contract: before turn k the window is that after k samples. Assumes nothing.
-use mathlib.Core.Path.{◌≡◌, refl, ap, ◌∙◌}
-use native.Mathlib.Omega.{arith}
-use Rattle.sums.specs.Interleaved.{table}
-use Rattle.estimate_correlation.specs.Correlation.{prepared}
-use Rattle.estimate_correlation.specs.Code.RunningSums.{window}
-use Rattle.estimate_correlation.proofs.WindowLaws.{window_next}
-use borrow.Author.Rules.{rules}
+-- `first_window`: the sample that came is the next of the prepared ones.
+use Rattle.std.proofs.Common.{◌<◌, ◌∙◌, arith, length-take-le}
+use Rattle.estimate_correlation.proofs.SampleLaws.{sample_next}
+use Rattle.estimate_correlation.proofs.WindowLaws.{latest_next}
 use Rattle.estimate_correlation.proofs.first_window.Goals as goal
 
-pub loop-k-init : goal.loop-k-init
-unfolding window table
-loop-k-init c = (refl, search rules)
-
-pub loop-k-preserved : goal.loop-k-preserved
-loop-k-preserved c =
-    let l = c.loop-k in
-    (window_next _ l.k l.invariant.0 c.sample-s.ensures c.slide-w.ensures, omega arith)
-
-pub returns : goal.returns
-returns c =
-    let s = c.args in
-    let e : c.loop-k.k ≡ 9 = omega arith in
-    c.loop-k.invariant.0 ∙ ap (window (prepared s.squared s.x.now)) e
+pub loop-re-preserved : goal.loop-re-preserved
+loop-re-preserved g c =
+    let xs = c.args.x.now in
+    let k = c.loop-re.re-index in
+    let lt : k < 9 = omega (arith, length-take-le 9 c.as_chunks.result.0.now (omega arith)) in
+    let next = c.sample.ensures ∙ sample_next g.P.Preparation.squared xs 9 0 k k c.as_chunks.ensures.front lt (omega arith) (omega arith) in
+    latest_next _ k c.loop-re.window c.slid-window.result c.loop-re.invariant next c.slid-window.ensures.first c.slid-window.ensures.later

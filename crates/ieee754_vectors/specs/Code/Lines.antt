@@ -1,6 +1,6 @@
 -- A line of the vectors: an operation's letter, three arguments and the result, each as 16 hexadecimal digits after a space. A float stands as its
 -- pattern, an f32 in the lower half. Definitions only.
-use Rattle.std.specs.Prelude.{List, Bool, cond, ℕ, ◌%◌, ◌^◌, eqb, Float, pos, get_or}
+use Rattle.std.specs.Prelude.{List, Bool, cond, ℕ, eqb, pos, get_or}
 use Rattle.std.specs.Float.{binary32, binary64}
 use Rattle.std.specs.Float.Ieee.{of_bits, to_bits, of_int, to_unsigned}
 use Rattle.ieee754.specs.Conversion.{convert}
@@ -10,10 +10,8 @@ use Rattle.ieee754.specs.Remainder.{rem_euclid}
 use Rattle.ieee754.specs.Sign.{absolute}
 use Rattle.ieee754.specs.SquareRoot.{sqrt}
 use Rattle.ieee754.specs.Hypotenuse.{hypotenuse}
+use Rattle.vectors.specs.Code.Lines.{single}
 use Rattle.vectors.specs.Code.Words.{word_at}
-
-unfoldable pub single : ℕ → Float
-single a = of_bits binary32 (a % 2 ^ 32)
 
 -- s square root, n f64 to f32, w f32 to f64, u u64 to f64, r rounded to an integer, t as usize; a, and any other letter, absolute value
 unfoldable pub of_one : ℕ → ℕ → ℕ

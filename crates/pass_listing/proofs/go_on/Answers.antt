@@ -1,5 +1,7 @@
 -- `go_on`: a write or a read, the end of the text, or the lines that are held.
-use mathlib.Core.Path.{refl, sym, ◌∙◌}
+use lib.ListN.{length}
+use borrow.Author.Rules.{rules}
+use mathlib.Core.Path.{◌≡◌, refl, sym, ◌∙◌}
 use native.Mathlib.Omega.{arith}
 use Rattle.pass_transfer.specs.declared.State.{State}
 use Rattle.pass_transfer.proofs.StandingLaws.{stands_as, ready_close}
@@ -10,22 +12,22 @@ use Rattle.pass_listing.proofs.go_on.Goals as goal
 
 pub end-n-requires : goal.end-n-requires
 end-n-requires g c =
-    let z = c.requires.1.list in
+    let z : length c.args.out.now ≡ 65536 = search rules in
     (omega arith, ready_close _ _ _ c.requires.0.ready c.in-Close.is)
 
 pub returns-in-Close-clause-stands : goal.returns-in-Close-clause-stands
 returns-in-Close-clause-stands g c =
     λ h.
-    stands_as _ _ _ _ _ c.closing-state.ensures
+    stands_as _ _ _ _ _ c.closing.ensures
     (stands_ended c.args.s _ _ _ _ h (sym c.is_due.ensures ∙ c.if-not-is_due.false) _ _ c.end-n.ensures.upper_bound c.end-n.ensures.finished)
 
 pub returns-then-not-is_due-clause-moves : goal.returns-then-not-is_due-clause-moves
-returns-then-not-is_due-clause-moves g c = λ had held h. c.step-state.ensures.moves _ _ _ h
+returns-then-not-is_due-clause-moves g c = λ had held h. c.step.ensures.moves _ _ _ h
 
 pub returns-in-Close-clause-moves : goal.returns-in-Close-clause-moves
 returns-in-Close-clause-moves g c =
     λ had held h.
-    moves_as _ _ _ _ _ _ _ _ _ c.closing-state.ensures
+    moves_as _ _ _ _ _ _ _ _ _ c.closing.ensures
     (moves_ended c.args.s _ _ _ _ _ _ _ _ h (sym c.is_due.ensures ∙ c.if-not-is_due.false) c.in-Close.is _ _ c.end-n.ensures.upper_bound c.end-n.ensures.finished)
 
 pub returns : goal.returns

@@ -8,25 +8,24 @@ use Rattle.std.proofs.Common.{rules}
 use Rattle.pass_listing.proofs.pump.Goals as goal
 
 pub returns-then-is_over-clause-accounted : goal.returns-then-is_over-clause-accounted
-returns-then-is_over-clause-accounted g c = subst Accounted (sym c.account_of.ensures) (accounted _ _ _ _ c.loop-turns.invariant.stands _)
+returns-then-is_over-clause-accounted g c = subst Accounted (sym c.account.ensures) (accounted _ _ _ _ c.loop-turn.invariant.stands _)
 
 pub returns-clause-accounted : goal.returns-clause-accounted
-returns-clause-accounted g c = subst Accounted (sym c.account_of-2.ensures) (accounted _ _ _ _ c.loop-turns.invariant.stands _)
+returns-clause-accounted g c = subst Accounted (sym c.account-2.ensures) (accounted _ _ _ _ c.loop-turn.invariant.stands _)
 
 pub returns-then-is_over-clause-carried : goal.returns-then-is_over-clause-carried
 returns-then-is_over-clause-carried g c =
     λ had held h.
-    subst (λ (a : Account). Carried a had (g.R.Read.remaining c.loop-turns.input) held (g.W.Write.contents c.loop-turns.output)) (sym c.account_of.ensures)
-    (carried _ _ _ _ _ _ _ _ (c.loop-turns.invariant.moves had held h) _)
+    subst (λ (a : Account). Carried a had (g.R.Read.remaining c.loop-turn.input) held (g.W.Write.contents c.loop-turn.output)) (sym c.account.ensures)
+    (carried _ _ _ _ _ _ _ _ (c.loop-turn.invariant.moves had held h) _)
 
-pub loop-turns-preserved : goal.loop-turns-preserved
-loop-turns-preserved g c =
-    let i = c.loop-turns.invariant in
+pub loop-turn-preserved : goal.loop-turn-preserved
+loop-turn-preserved g c =
+    let i = c.loop-turn.invariant in
     let w = c.go_on-w.ensures in
     record {
       stands = w.stands i.stands;
       moves = λ had held h. w.moves had held (i.moves had held h);
-      sizes = search rules;
       read = search rules;
       written = search rules;
     }
@@ -34,5 +33,5 @@ loop-turns-preserved g c =
 pub returns-clause-carried : goal.returns-clause-carried
 returns-clause-carried g c =
     λ had held h.
-    subst (λ (a : Account). Carried a had (g.R.Read.remaining c.loop-turns.input) held (g.W.Write.contents c.loop-turns.output)) (sym c.account_of-2.ensures)
-    (carried _ _ _ _ _ _ _ _ (c.loop-turns.invariant.moves had held h) _)
+    subst (λ (a : Account). Carried a had (g.R.Read.remaining c.loop-turn.input) held (g.W.Write.contents c.loop-turn.output)) (sym c.account-2.ensures)
+    (carried _ _ _ _ _ _ _ _ (c.loop-turn.invariant.moves had held h) _)

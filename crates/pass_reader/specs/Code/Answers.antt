@@ -1,46 +1,33 @@
 -- What the answers of the code say. Definitions only.
-use Rattle.std.specs.Prelude.{cond, List, [], ◌∷◌, ◌++◌, ℕ, length, drop, Float}
-use Rattle.std.proofs.Math.Option.{Option, none, some}
-use Rattle.pass_reader.specs.Bytes.{same}
-use Rattle.pass_reader.specs.Lines.{outside}
-use Rattle.pass_reader.specs.declared.number.Number.{Number}
-use Rattle.pass_reader.specs.declared.number.Number.TheVariants.{Value, NoValue}
+use Rattle.std.specs.Prelude.{cond, List, [], ◌∷◌, ◌++◌, ℕ, leb, length, drop, Float, Option, Some, None, option_and_then}
+use denote.Ref.{Bor}
+use Rattle.pass_reader.specs.Bytes.{fields}
+use Rattle.pass_reader.specs.Numbers.{decimal_of}
 use Rattle.pass_reader.specs.declared.values.Values.{Values}
-use Rattle.pass_reader.specs.declared.values.ValuesRead.{ValuesRead}
-use Rattle.pass_reader.specs.declared.values.ValuesRead.TheVariants.{Read, Outside}
-use Rattle.pass_reader.specs.declared.block.BlockRead.{BlockRead}
-use Rattle.pass_reader.specs.declared.block.BlockRead.TheVariants.{Taken, Refused}
-
--- the value of each case of an answer
-abbrev pub value_in : Number → Option ℕ
-value_in (Value v) = some v
-value_in NoValue = none
-
--- the refusal number of a line that has to be just this one, 0 if it is
-unfoldable pub refusal_unless : List ℕ → List ℕ → ℕ
-refusal_unless expected line = cond (same line expected) 0 outside
 
 -- values in the order of their names
 abbrev pub values_of : Values → List ℕ
 values_of v = v.rate ∷ v.factor ∷ v.modulation ∷ v.adaptive ∷ v.dual ∷ v.bank ∷ v.fade ∷ v.nominal ∷ v.target ∷ []
 
--- what a line of values says, by the case of its answer
-abbrev pub values_said : ValuesRead → Option (List ℕ)
-values_said (Read v) = some (values_of v)
-values_said Outside = none
+-- the fields of a text that is left, or none after the last
+abbrev pub fields_of : Option (Bor (List ℕ)) → List (List ℕ)
+fields_of None = []
+fields_of (Some s) = fields s.now
 
--- what reading a block's line says: the refusal number, the flag, and the count of components
-pub record BlockSaid : Type 0 where
-  pub refusal : ℕ
-  pub flag : ℕ
-  pub count : ℕ
+-- the number of the first field, and the fields after it
+unfoldable pub next_decimal : List (List ℕ) → Option ℕ × List (List ℕ)
+next_decimal [] = (None, [])
+next_decimal (f ∷ r) = (decimal_of f, r)
 
--- what is said, and the lent buffer after it: the components lie at its front. A refused line leaves the buffer as it was
-unfoldable pub read_into : Option (ℕ × List Float) → List Float → BlockSaid × List Float
-read_into none old = (record { refusal = outside; flag = 0; count = 0 }, old)
-read_into (some b) old = (record { refusal = 0; flag = b.0; count = length b.1 }, b.1 ++ drop (length b.1) old)
+-- a number, if it is that of a switch
+abbrev pub switch : ℕ → Option ℕ
+switch n = cond (leb n 1) (Some n) None
 
--- the number and the values of each case of an answer
-abbrev pub block_said : BlockRead → BlockSaid
-block_said (Taken f n) = record { refusal = 0; flag = f; count = n }
-block_said Refused = record { refusal = outside; flag = 0; count = 0 }
+unfoldable pub next_switch : List (List ℕ) → Option ℕ × List (List ℕ)
+next_switch l = (option_and_then switch (next_decimal l).0, (next_decimal l).1)
+
+-- What reading a block's line says, its flag and the count of its components, and the lent buffer after it: the components lie at its front. A line outside the
+-- form leaves the buffer as it was.
+unfoldable pub read_into : Option (ℕ × List Float) → List Float → Option (ℕ × ℕ) × List Float
+read_into None old = (None, old)
+read_into (Some b) old = (Some (b.0, length b.1), b.1 ++ drop (length b.1) old)

@@ -1,5 +1,5 @@
 -- Where the stream stands between two turns. Definitions only.
-use Rattle.std.specs.Prelude.{◌≡◌, Bool, cond, true, false, ◌||◌, List, [], ◌++◌, ℕ, ◌+◌, ◌-◌, ◌≤◌, ◌<◌, min, eqb, ltb, length, take, drop, ℤ, pos, negsuc, Float, Result, Ok, Err, Option, unwrap_or, option_map}
+use Rattle.std.specs.Prelude.{◌≡◌, Bool, cond, true, false, ◌||◌, List, [], ◌++◌, ℕ, ◌+◌, ◌-◌, ◌≤◌, ◌<◌, min, eqb, ltb, length, take, drop, ℤ, pos, negsuc, Float, Result, Ok, Err, Option, Some, None, unwrap_or, option_map}
 use Rattle.std.specs.Io.KnownBytes.{Keeps, Appends, Consumes, IsAtEnd}
 use Rattle.std.specs.IoError.{error_kind, raw_os_error}
 use Rattle.std.specs.declared.io.Error.{Error}
@@ -12,8 +12,6 @@ use Rattle.pass_setup.specs.declared.pass.Pass.{Pass}
 use Rattle.pass_setup.specs.Listing.{Run, list_of, list_after}
 use Rattle.pass_transfer.specs.declared.Next.{Next}
 use Rattle.pass_transfer.specs.declared.Next.TheVariants.{Read, Turn, Close, Refused, Ended, Failed}
-use Rattle.pass_transfer.specs.declared.Got.{Got}
-use Rattle.pass_transfer.specs.declared.Got.TheVariants.{Bytes, End, Failed as Failing}
 use Rattle.pass_transfer.specs.declared.State.{State}
 use Rattle.pass_transfer.specs.declared.Account.{Account}
 use Rattle.pass_transfer.specs.Account.{Listed, is_last}
@@ -27,22 +25,22 @@ abbrev pub NoLine : List ℕ → Type 0
 NoLine s = length s ≤ place newline s
 
 -- what the answer of a read into so many bytes means: how many came, none at the end of the input, or a failure
-unfoldable pub got_of : Result ℕ Error → ℕ → Got
-got_of (Ok n) most = cond (eqb (min n most) 0) End (Bytes (min n most))
-got_of (Err e) most = Failing e
+unfoldable pub got_of : Result ℕ Error → ℕ → Result (Option ℕ) Error
+got_of (Ok n) most = Ok (cond (eqb (min n most) 0) None (Some (min n most)))
+got_of (Err e) most = Err e
 
 -- bytes that came are at least one, and no more than there was room for
-unfoldable pub Brought : Got → ℕ → Type 0
-Brought (Bytes n) most = (0 < n) × (n ≤ most)
-Brought End most = Unit {0}
-Brought (Failing e) most = Unit {0}
+unfoldable pub Brought : Result (Option ℕ) Error → ℕ → Type 0
+Brought (Ok (Some n)) most = (0 < n) × (n ≤ most)
+Brought (Ok None) most = Unit {0}
+Brought (Err e) most = Unit {0}
 
 -- what a read that brought this did to the bytes that its reader has left: those that came are at the front of the part that was lent, and none came only at
 -- the end of the input, or where there was no room
-unfoldable pub Took : Got → Option (List ℕ) → Option (List ℕ) → List ℕ → Type 0
-Took (Bytes n) had left part = Consumes had left (take n part)
-Took End had left part = Keeps had left × (0 < length part → IsAtEnd left)
-Took (Failing e) had left part = Keeps had left
+unfoldable pub Took : Result (Option ℕ) Error → Option (List ℕ) → Option (List ℕ) → List ℕ → Type 0
+Took (Ok (Some n)) had left part = Consumes had left (take n part)
+Took (Ok None) had left part = Keeps had left × (0 < length part → IsAtEnd left)
+Took (Err e) had left part = Keeps had left
 
 -- an error as the system numbers it; none is negative
 abbrev pub error_of : ℤ → ℕ
@@ -77,11 +75,6 @@ is_held Failed = false
 
 abbrev pub is_due : State → Bool
 is_due s = cond (ltb s.from s.at) false (is_held s.next)
-
--- how large the two buffers are
-pub record Sizes (buf out : List ℕ) : Type 0 where
-  pub text : length buf ≡ 262144
-  pub list : length out ≡ 65536
 
 -- the counts have room for another turn
 abbrev pub Countable : State → Type 0

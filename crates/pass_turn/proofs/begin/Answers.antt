@@ -11,4 +11,4 @@ returns c =
     let room = c.requires in
     let a = alone_within _ _ _ _ n.ensures room short_names in
     let k = n.auto.out in
-    record { left_value = (refl, omega arith, refl); begun = begun _ _ c.new_pass-pass.ensures (alone _ _ _ _ n.ensures room short_names) }
+    record { left_value = (refl, omega arith, refl); begun = begun _ _ c.new.ensures (alone _ _ _ _ n.ensures room short_names) }

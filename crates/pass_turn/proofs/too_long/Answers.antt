@@ -11,7 +11,7 @@ slice_bounds-finish-end c = sym (length-take-le _ _ c.requires.0)
 
 pub returns : goal.returns
 returns c =
-    let f = c.finish-j in
+    let f = c.finish in
     let a = finished_within _ _ _ _ f.result _ f.ensures c.requires.1 in
     let k = f.auto.out in
     record { upper_bound = omega arith; more_value = long_made _ _ _ _ f.result _ f.ensures c.requires.1 c.requires.2 }

@@ -37,8 +37,8 @@ returns-then-not-has_room c =
     let o = some_used _ _ _ _ r.result _ _ r.ensures (le-leb _ _ c.requires.list) full in
     record { within = record { held = omega arith; list = l }; turned = turn-again _ _ _ _ r.result _ _ r.ensures _ f; gets_on = omega arith }
 
-pub too_long-last-requires : goal.too_long-last-requires
-too_long-last-requires c =
+pub too_long-requires : goal.too_long-requires
+too_long-requires c =
     let r = c.run-r in
     let k = c.carry-rest in
     let l = ran_within _ _ _ _ _ r.result _ _ r.ensures (omega arith) in
@@ -68,7 +68,7 @@ returns-then-rest-buf c =
     let b = k.auto.buf in
     let m = c.requires.held in
     let z = c.requires.text in
-    let t = c.too_long-last in
+    let t = c.too_long in
     record { within = record { held = omega arith; list = t.ensures.upper_bound }; turned = turn-refuses _ _ _ _ r.result _ _ r.ensures _ f _ (t.ensures.more_value _) _ _; gets_on = tt }
 
 pub returns : goal.returns

@@ -2,7 +2,6 @@
 -- matter. Definitions only.
 use Rattle.std.specs.Prelude.{ℕ, cond, List, Float}
 use Rattle.tracker_covariance.specs.Correction.{innovation_variance, takes_gain, gain_of, corrected_state}
-use Rattle.tracker_measurement.specs.declared.measure.Measured.{Measured}
 use Rattle.tracker_measurement.specs.Measurement.{measured}
 use Rattle.tracker.specs.declared.state.CarrierPllEkf.{CarrierPllEkf}
 use Rattle.tracker.specs.declared.correction.Correction.{Correction}
@@ -10,11 +9,6 @@ use Rattle.tracker.specs.declared.correction.Correction.TheVariants.{Kept}
 use Rattle.tracker.specs.declared.correction.Corrected.{Corrected}
 use Rattle.tracker.specs.State.{with_envelope}
 use Rattle.tracker.specs.Correction.{prior_of, corrected_or_lost}
-use Rattle.tracker.specs.declared.second.Innovation.{Innovation}
-
--- z, R and the envelope out of all that a sample says
-abbrev pub innovation_of : Measured → Innovation
-innovation_of m = record { z = m.z; r_effective = m.r_effective; envelope_ema = m.envelope_ema }
 
 -- the tracker's `gained` at z and R, with the answer given for one that is not lost
 unfoldable pub moved : CarrierPllEkf → List Float → ℕ → Float → Float → Correction → Corrected
@@ -28,5 +22,5 @@ moved t p i z noise kept =
 -- the correction by a sample of the second channel, with the pair (in_phase, pr) as its answer where it is not lost
 unfoldable pub second_moved : CarrierPllEkf → List Float → Float → Float → Float → Float → Corrected
 second_moved t p in_phase pr re im =
-    let v = innovation_of (measured (prior_of t 3) re im) in
-    moved (with_envelope t v.envelope_ema) p 3 v.z v.r_effective (Kept in_phase pr)
+    let m = measured (prior_of t 3) re im in
+    moved (with_envelope t m.envelope_ema) p 3 m.z m.r_effective (Kept in_phase pr)

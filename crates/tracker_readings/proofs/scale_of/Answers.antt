@@ -10,7 +10,3 @@ returns-in-Carrier c = search rules
 pub returns-in-Bpsk : goal.returns-in-Bpsk
 unfolding scale
 returns-in-Bpsk c = search rules
-
-pub returns-in-Qpsk : goal.returns-in-Qpsk
-unfolding scale
-returns-in-Qpsk c = search rules

@@ -7,7 +7,7 @@ use lib.ListN.{length, drop}
 use Rattle.tracker.specs.declared.correction.Correction.{Correction}
 use Rattle.tracker.specs.declared.correction.Correction.TheVariants.{Kept, Lost}
 use Rattle.vectors.specs.Code.Lines.{stands_at, ends_at}
-use Rattle.vectors.proofs.LineLaws.{stands_at_both, stands_in_rest}
+use Rattle.vectors.proofs.LineLaws.{stands_at_both, stands_in_rest, stands_words}
 use Rattle.tracker_vectors.specs.declared.after.Answered.{Answered}
 use Rattle.tracker_vectors.specs.Code.After.{after_words, answer_words}
 use Rattle.tracker_vectors.specs.Code.Lines.{answered_from, first_agrees}
@@ -30,4 +30,4 @@ whole ws r er ew ea el eb et ee =
     λ j. et j && (h j && ee j)
 
 pub returns : goal.returns
-returns c = whole c.args.words.now c.first_in-r.result (c.first_in-r.ensures ∙ ap answered_from c.rest.ensures) c.answer_words-answer.ensures c.stands.ensures c.rest-2.ensures c.after_stands.ensures c.two_stands.ensures c.ends.ensures
+returns c = whole c.args.words.now c.first_in-r.result (c.first_in-r.ensures ∙ ap answered_from c.rest.ensures) c.answer_words-answer.ensures (c.stands.ensures ∙ stands_words 57 c.answer_words-answer.result c.args.words.now) c.rest-2.ensures c.stands-2.ensures c.two_stands.ensures c.ends.ensures

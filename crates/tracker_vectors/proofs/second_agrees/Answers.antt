@@ -20,4 +20,4 @@ whole ws r er ea el eb et ee =
     λ j. et j && (a' j && (b' j && ee j))
 
 pub returns : goal.returns
-returns c = whole c.args.words.now c.second_in-r.result (c.second_in-r.ensures ∙ ap marked_from c.rest.ensures) c.stands.ensures c.rest-2.ensures c.after_stands-same.ensures c.two_stands.ensures c.ends.ensures
+returns c = whole c.args.words.now c.second_in-r.result (c.second_in-r.ensures ∙ ap marked_from c.rest.ensures) c.stands.ensures c.rest-2.ensures c.stands-same.ensures c.two_stands.ensures c.ends.ensures

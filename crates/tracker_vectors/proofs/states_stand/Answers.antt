@@ -18,4 +18,4 @@ unfolding states_words
 parts ws r lx ea eb = (λ j. ea j && eb j) ∙ sym (stands_at_both 0 6 (map pattern r.ekf.x) (map pattern r.p) ws (length-map r.ekf.x pattern ∙ lx))
 
 pub returns : goal.returns
-returns c = parts c.args.a.now c.args.r (search rules) c.floats_stand.ensures c.floats_stand-2.ensures
+returns c = parts c.args.a.now c.args.r (search rules) c.stands.ensures c.stands-2.ensures

@@ -20,4 +20,4 @@ whole ws eb ed eg r er el es et ee =
     λ j. et j && (s' j && ee j)
 
 pub returns : goal.returns
-returns c = whole c.args.words.now c.rest.ensures c.mark.ensures c.number.ensures c.update_in-r.result c.update_in-r.ensures c.rest-2.ensures c.guarded_stands-same.ensures c.two_stands.ensures c.ends.ensures
+returns c = whole c.args.words.now c.rest-b.ensures c.at.ensures c.at-2.ensures c.update_in-r.result c.update_in-r.ensures c.rest.ensures c.stands_guarded-same.ensures c.two_stands.ensures c.ends.ensures

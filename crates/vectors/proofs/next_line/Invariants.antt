@@ -1,11 +1,6 @@
--- `vectors::next_line` meets its contract. Assumes nothing.
-use mathlib.Core.Path.{◌≡◌}
-use Prim.Native.Nat.{◌-◌, ◌≤◌}
-use lib.ListN.{length}
+-- `vectors::next_line` meets its contract: the count stays within the list. Assumes nothing.
+use Rattle.std.proofs.Common.{◌≤◌, length}
 use Rattle.vectors.proofs.next_line.Given as goal
 
-abbrev pub invariant-loop-read : goal.invariant-loop-read
-invariant-loop-read l = (l.n ≤ length l.initial.words) × (length l.words ≡ length l.initial.words) × (l.read ≤ 281474976710656)
-
-abbrev pub decreases-loop-read : goal.decreases-loop-read
-decreases-loop-read l = 281474976710656 - l.read
+abbrev pub invariant-loop : goal.invariant-loop
+invariant-loop l = l.n ≤ length l.words

@@ -17,24 +17,32 @@ mark_number m = cond m 1 0
 unfoldable pub mark_at : ℕ → List ℕ → Bool
 mark_at i ws = eqb (number_at i ws) 1
 
+-- the f32 whose pattern stands in the lower half of a number
+unfoldable pub single : ℕ → Float
+single n = of_bits binary32 (n % 2 ^ 32)
+
 -- the float whose pattern the number is; an f32's stands in the lower half
 unfoldable pub float64_at : ℕ → List ℕ → Float
 float64_at i ws = of_bits binary64 (number_at i ws)
 
 unfoldable pub float32_at : ℕ → List ℕ → Float
-float32_at i ws = of_bits binary32 (number_at i ws % 2 ^ 32)
+float32_at i ws = single (number_at i ws)
 
 -- what f has at n places, from place i on
-unfoldable pub from_place : (ℕ → Float) → ℕ → ℕ → List Float
+unfoldable pub from_place {ℓ} : {A : Type ℓ} → (ℕ → A) → ℕ → ℕ → List A
 from_place f i zero = []
 from_place f i (suc n) = f i ∷ from_place f (i + 1) n
 
--- n floats, from place i on
-unfoldable pub float64s_at : ℕ → ℕ → List ℕ → List Float
-float64s_at i n ws = from_place (λ k. float64_at k ws) i n
+-- n values of a line, from place i on, where f is what stands at a place
+unfoldable pub values_at {ℓ} : {A : Type ℓ} → (ℕ → List ℕ → A) → ℕ → ℕ → List ℕ → List A
+values_at f i n ws = from_place (λ k. f k ws) i n
 
-unfoldable pub float32s_at : ℕ → ℕ → List ℕ → List Float
-float32s_at i n ws = from_place (λ k. float32_at k ws) i n
+-- n floats, from place i on
+abbrev pub float64s_at : ℕ → ℕ → List ℕ → List Float
+float64s_at i n ws = values_at float64_at i n ws
+
+abbrev pub float32s_at : ℕ → ℕ → List ℕ → List Float
+float32s_at i n ws = values_at float32_at i n ws
 
 -- two lists of numbers are equal
 unfoldable pub same_numbers : List ℕ → List ℕ → Bool

@@ -23,9 +23,13 @@ word_at a line = fold with_digit 0 (stretch a 16 line)
 unfoldable pub mixed_number : ℕ → ℕ → ℕ
 mixed_number sum n = sum % (2 ^ 59 - 55) * 31 + n % (2 ^ 59 - 55)
 
--- the same for an f64 and for an f32, by its pattern
-unfoldable pub mixed : ℕ → Float → ℕ
-mixed sum x = mixed_number sum (to_bits binary64 x)
+-- the same for a value that stands as a number
+unfoldable pub mixed_by {ℓ} : {A : Type ℓ} → (A → ℕ) → ℕ → A → ℕ
+mixed_by f sum x = mixed_number sum (f x)
 
-unfoldable pub mixed32 : ℕ → Float → ℕ
-mixed32 sum x = mixed_number sum (to_bits binary32 x)
+-- for an f64 and for an f32, by its pattern
+abbrev pub mixed : ℕ → Float → ℕ
+mixed = mixed_by (to_bits binary64)
+
+abbrev pub mixed32 : ℕ → Float → ℕ
+mixed32 = mixed_by (to_bits binary32)

@@ -10,5 +10,5 @@ pub returns-then-moves_as_one : goal.returns-then-moves_as_one
 returns-then-moves_as_one c =
     each_agrees _ _ _ _ c.requires (followed_once _ _ _ _ (c.moves_as_one.ensures c.if-moves_as_one.true) c.follow_once-h.ensures)
 
-pub returns : goal.returns
-returns c = each_agrees _ _ _ _ c.requires c.follow_each.ensures
+pub returns-else-moves_as_one : goal.returns-else-moves_as_one
+returns-else-moves_as_one c = each_agrees _ _ _ _ c.requires c.follow_each.ensures

@@ -1,17 +1,12 @@
--- `channel_cases::line::asks` meets its contract. Assumes nothing.
-use native.Mathlib.Omega.{arith}
+-- `asks` meets its contract, by the word's sign. Assumes nothing.
+use Rattle.std.proofs.Common.{◌≡◌, refl, sym, arith}
 use Rattle.channel_cases.proofs.CaseLaws.{asks_none, asks_some}
 use Rattle.channel_cases.proofs.line.asks.Goals as goal
 
-pub returns-then-k-eq0 : goal.returns-then-k-eq0
-returns-then-k-eq0 c =
-    let w = c.args.w.now in
-    asks_none w c.sign_at-k.result c.sign_at-k.ensures.value c.if-k-eq0.true
+pub returns-in-Some : goal.returns-in-Some
+returns-in-Some c =
+    let v = c.in-Some.ensures.value in
+    asks_some c.args.w.now c.in-Some.k v.0 (λ e. let z : c.in-Some.k ≡ 0 = e in let p = v.1 in omega arith)
 
-pub bounds-w-k : goal.bounds-w-k
-bounds-w-k c = c.sign_at-k.ensures.upper_bound.2 (omega arith)
-
-pub returns : goal.returns
-returns c =
-    let w = c.args.w.now in
-    asks_some w c.sign_at-k.result c.sign_at-k.ensures.value c.if-k-eq0.false
+pub returns-in-None : goal.returns-in-None
+returns-in-None c = asks_none c.args.w.now 0 (sym c.in-None.ensures.value) refl

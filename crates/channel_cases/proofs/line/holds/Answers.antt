@@ -12,7 +12,7 @@ use Rattle.channel_cases.proofs.CaseLaws.{judged_of, judged_is, word_next, case_
 use Rattle.channel_cases.proofs.line.holds.Goals as goal
 
 pub loop-at-init : goal.loop-at-init
-loop-at-init c = (ap (λ (s : Session). fold judged (judged_of s false true) (fields c.args.line.now)) c.new_session-s.ensures, omega arith)
+loop-at-init c = (ap (λ (s : Session). fold judged (judged_of s false true) (fields c.args.line.now)) c.new-s.ensures, omega arith)
 
 pub loop-at-preserved : goal.loop-at-preserved
 loop-at-preserved c =

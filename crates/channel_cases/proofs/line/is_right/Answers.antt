@@ -1,24 +1,27 @@
--- `channel_cases::line::is_right` meets its contract. Assumes nothing.
-use mathlib.Core.Path.{refl, sym, ◌∙◌}
-use Prim.Native.Nat.{◌<◌}
-use native.Mathlib.Omega.{arith}
-use Rattle.channel_cases.specs.Code.Cases.{sign_place}
-use Rattle.channel_cases.proofs.CaseLaws.{right-asked, right-unasked, asks_signed}
+-- `is_right` meets its contract, by the word's sign. Assumes nothing.
+use Rattle.std.proofs.Common.{◌≡◌, refl, sym, ap, ◌∙◌, not, get_or, arith}
+use borrow.Author.Tests.{eq-eqb, ne_eqb}
+use Rattle.channel_cases.proofs.CaseLaws.{asks_none, asks_some, right-asked, right-unasked}
 use Rattle.channel_cases.proofs.line.is_right.Goals as goal
 
-pub expected-requires : goal.expected-requires
-expected-requires c =
+pub returns-in_default : goal.returns-in_default
+returns-in_default c =
     let w = c.args.w.now in
-    let h : 0 < sign_place w = asks_signed w (sym c.asks.ensures ∙ c.if-asks.true) in
-    let e = c.sign_at-k.ensures.value in
-    c.sign_at-k.ensures.upper_bound.2 (omega (arith, e, h))
+    let v = sym c.in_default.ensures.value in
+    right-unasked w 0 v c.args.s (sym (asks_none w 0 v refl))
 
-pub returns-then-asks : goal.returns-then-asks
-returns-then-asks c =
-    let a = c.args in
-    c.expected.ensures ∙ right-asked a.w.now c.sign_at-k.result c.sign_at-k.ensures.value a.s (sym c.asks.ensures ∙ c.if-asks.true)
+pub returns-then-w-k-eq58 : goal.returns-then-w-k-eq58
+returns-then-w-k-eq58 c =
+    let w = c.args.w.now in
+    let k = c.in-Some.k in
+    let v = c.in-Some.ensures.value in
+    let a = asks_some w k v.0 (λ e. let z : k ≡ 0 = e in let p = v.1 in omega arith) in
+    right-unasked w k v.0 c.args.s (sym a ∙ ap not (eq-eqb (get_or w k 0) 58 c.if-w-k-eq58.true))
 
 pub returns : goal.returns
 returns c =
-    let a = c.args in
-    right-unasked a.w.now (sign_place a.w.now) refl a.s (sym c.asks.ensures ∙ c.if-asks.false)
+    let w = c.args.w.now in
+    let k = c.in-Some.k in
+    let v = c.in-Some.ensures.value in
+    let a = asks_some w k v.0 (λ e. let z : k ≡ 0 = e in let p = v.1 in omega arith) in
+    c.expected.ensures ∙ right-asked w k v.0 c.args.s (sym a ∙ ap not (ne_eqb (get_or w k 0) 58 c.if-w-k-eq58.false))

@@ -1,21 +1,19 @@
--- `channel_cases::number::pattern` meets its contract: the digits that are left, from those so far, come to all of them. Assumes nothing.
-use mathlib.Core.Path.{refl, ap, sym, ◌∙◌}
-use Prim.Native.Nat.{ℕ}
-use native.Mathlib.Omega.{arith}
+-- `pattern` meets its contract: the library's fold is the fold of the digits. Assumes nothing.
+use Rattle.std.proofs.Common.{◌≡◌, ℕ, List, ◌-◌, ap, ◌∙◌, length, take, drop, rules}
+use Rattle.std.specs.List as lists
 use lib.Ieee.{binary64, of_bits}
-use Rattle.sequences.proofs.FoldLaws.{fold_next, fold_end}
 use Rattle.vectors.specs.Code.Words.{with_digit}
+use Rattle.vectors.proofs.Folds.{fold_is}
+use Rattle.vectors.proofs.LineLaws.{rest_is}
+use Rattle.sequences.specs.Folds.{fold}
 use Rattle.channel_cases.specs.Code.Numbers.{pattern_of}
 use Rattle.channel_cases.proofs.number.pattern.Goals as goal
 
-pub loop-i-init : goal.loop-i-init
-loop-i-init c = refl
-
-pub loop-i-preserved : goal.loop-i-preserved
-loop-i-preserved c = fold_next c.args.s.now c.loop-i.i with_digit _ (omega arith) c.with_digit-v.ensures ∙ c.loop-i.invariant
+digits : (c : goal.After-of_pattern) → c.fold.result ≡ lists.fold with_digit 0 (take (length c.args.s.now - c.min-from.result) (drop c.min-from.result c.args.s.now))
+digits c = search rules
 
 pub returns : goal.returns
 unfolding pattern_of
 returns c =
-    c.f64_from_bits.ensures
-    ∙ ap (λ (v : ℕ). of_bits binary64 v) (sym (fold_end c.args.s.now c.loop-i.i with_digit c.loop-i.v (omega arith)) ∙ c.loop-i.invariant)
+    let s = c.args.s.now in
+    c.of_pattern.ensures ∙ ap (of_bits binary64) (digits c ∙ fold_is with_digit 0 _ ∙ ap (λ (l : List ℕ). fold with_digit 0 l) (rest_is 1 c.min-from.result s c.min-from.ensures))

@@ -1,20 +1,12 @@
--- `channel_script::block::lent` meets its contract: of each memory no more is lent than there is. Assumes nothing.
-use mathlib.Core.Path.{sym}
-use lib.Seq.{length-take-le}
+-- `lent` meets its contract. Assumes nothing.
+use Rattle.std.proofs.Common.{◌≡◌, ℕ, ◌<◌, ◌≤◌, min, arith}
 use Rattle.channel_script.proofs.BlockLaws.{lent_is}
-use borrow.Author.Rules.{rules}
 use Rattle.channel_script.proofs.block.lent.Goals as goal
 
-pub slice_bounds-block-end-2 : goal.slice_bounds-block-end-2
-slice_bounds-block-end-2 c = sym (length-take-le _ _ (search rules))
-
-pub slice_bounds-block-end-4 : goal.slice_bounds-block-end-4
-slice_bounds-block-end-4 c = sym (length-take-le _ _ (search rules))
-
-pub slice_bounds-block-end-6 : goal.slice_bounds-block-end-6
-slice_bounds-block-end-6 c = sym (length-take-le _ _ (search rules))
+least : (r n k : ℕ) → r ≡ min n k → (r ≤ k) × (r ≤ n) × (r < n → r ≡ k)
+least r n k e = (omega arith, omega arith, λ h. omega arith)
 
 pub returns : goal.returns
 returns c =
     let a = c.args in
-    lent_is a.c a.l a.first.now a.second.now a.windows.now _ _ _ _ _ _ _ c.at_most-n.ensures c.at_most-m.ensures c.at_most-k.ensures c.block.ensures
+    lent_is a.c a.l a.first.now a.second.now a.windows.now _ _ _ _ _ _ _ (least _ _ _ c.min-n.ensures) (least _ _ _ c.min-m.ensures) (least _ _ _ c.min-k.ensures) c.block.ensures

@@ -7,4 +7,4 @@ pub returns : goal.returns
 unfolding of_int of_bits
 returns c =
     let a = c.args in
-    left_is a.c a.l c.lent-b.result _ _ _ _ _ c.first_list-first.ensures c.second_list-second.ensures c.lent-b.ensures c.is_touched-touched.ensures
+    left_is a.c a.l c.lent-b.result _ _ _ _ _ c.first_list-first.ensures c.second_list-second.ensures c.lent-b.ensures c.is_touched.ensures

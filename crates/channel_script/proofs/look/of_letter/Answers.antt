@@ -1,9 +1,8 @@
--- `channel_script::look::of_letter` meets its contract: one table after the other. Assumes nothing.
-use mathlib.Core.Path.{◌≡◌, ap, ◌∙◌}
-use mathlib.Core.List.{List}
-use lib.Ieee.{Float}
+-- `of_letter` meets its contract. Assumes nothing.
+use Rattle.std.proofs.Common.{◌≡◌, ap, ◌∙◌, List, Float}
+use Rattle.std.specs.Option.{option_or}
 use Rattle.channel_model.specs.Figures.{figures}
-use Rattle.channel_script.specs.Code.Letters.{stands_for}
+use Rattle.channel_script.specs.Code.Letters.{found}
 use Rattle.channel_script.specs.Code.Looking.{figure_names}
 use Rattle.channel_script.proofs.LookLaws.{one_letter_lem}
 use Rattle.channel_script.proofs.look.of_letter.Goals as goal
@@ -11,5 +10,8 @@ use Rattle.channel_script.proofs.look.of_letter.Goals as goal
 pub returns : goal.returns
 returns c =
     let a = c.args in
-    let f : c.of_figures-figured.result ≡ stands_for a.letter (figure_names (figures a.c) a.e.figures) c.of_answer-answered.result = c.of_figures-figured.ensures ∙ ap (λ (l : List Float). stands_for a.letter (figure_names l a.e.figures) c.of_answer-answered.result) c.figures-f.ensures in
-    one_letter_lem a.e a.c a.letter c.of_before-before.ensures c.of_answer-answered.ensures f c.of_channel-shown.ensures c.of_seen.ensures
+    let f : c.of_figures.result ≡ found a.letter (figure_names (figures a.c) a.e.figures) = c.of_figures.ensures ∙ ap (λ (l : List Float). found a.letter (figure_names l a.e.figures)) c.figures.ensures in
+    let o1 = c.or.ensures ∙ (λ j. option_or (c.of_seen.ensures j) (c.of_channel.ensures j)) in
+    let o2 = c.or-2.ensures ∙ (λ j. option_or (o1 j) (f j)) in
+    let o3 = c.or-3.ensures ∙ (λ j. option_or (o2 j) (c.of_answer.ensures j)) in
+    c.or-4.ensures ∙ (λ j. option_or (o3 j) (c.of_before.ensures j)) ∙ one_letter_lem a.e a.c a.letter

@@ -4,4 +4,4 @@ use Rattle.channel_script.proofs.set.set.Goals as goal
 
 pub returns : goal.returns
 unfolding set_by
-returns c = rw (c.is_one_of-sets.ensures, c.with_plan-plan.ensures, c.in_channel-channel.ensures)
+returns c = rw (c.is_one_of-sets.ensures, c.with_plan.ensures, c.in_channel.ensures)

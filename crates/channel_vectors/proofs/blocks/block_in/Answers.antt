@@ -12,4 +12,4 @@ pub returns : goal.returns
 returns c =
     let s = c.args in
     let d = c.block in
-    block_in_is s.c _ s.size _ d.result d.new.first d.new.second d.new.windows c.least-n.ensures d.ensures
+    block_in_is s.c _ s.size _ d.result d.new.first d.new.second d.new.windows c.min-n.ensures d.ensures

@@ -13,4 +13,4 @@ pub returns : goal.returns
 returns c =
     let s = c.args in
     let d = c.block_in-r in
-    made_block_is s.ruled _ s.behind s.c _ _ _ d.result d.new.first d.new.second d.new.windows c.rest-tail.ensures c.number-flag.ensures c.number-size.ensures d.ensures c.answer_stands-agrees.ensures
+    made_block_is s.ruled _ s.behind s.c _ _ _ d.result d.new.first d.new.second d.new.windows c.rest-tail.ensures c.at-flag.ensures c.at-size.ensures d.ensures c.answer_stands-agrees.ensures

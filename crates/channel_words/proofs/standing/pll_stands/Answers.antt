@@ -1,6 +1,10 @@
 -- `pll_stands` meets its contract. Assumes nothing.
+use Rattle.std.proofs.Common.{refl, ◌∙◌}
+use Rattle.vectors.proofs.LineLaws.{stands_words}
 use Rattle.channel_words.proofs.StandingCases.{pll_stands_are}
 use Rattle.channel_words.proofs.standing.pll_stands.Goals as goal
 
 pub returns : goal.returns
-returns c = pll_stands_are c.args.c _ c.mark_words-four.ensures c.stands-marks.ensures c.reading_words-shown.ensures c.stands-reading.ensures c.carrier_words-set.ensures c.stands-carriers.ensures c.tracker_stands-tracker.ensures
+returns c =
+    let m = c.mark_words-marks in
+    pll_stands_are c.args.c c.args.words.now m.ensures (c.stands.ensures ∙ stands_words 0 m.result c.args.words.now) refl c.stands_as.ensures refl c.stands_as-2.ensures c.stands_as-3.ensures

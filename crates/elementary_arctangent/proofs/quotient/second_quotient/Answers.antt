@@ -20,8 +20,8 @@ second_is q u x r {a} {b} e f g h k =
     k ∙ ap (λ (z : ℕ). z - 2 ^ 10) (h ∙ ap (λ (z : Float). ratio z b) (f ∙ ap (λ (z : ℕ). scaled z two_to_minus61) e) ∙ ap (λ (z : Float). ratio (scaled (2 * q - 2 ^ 61) two_to_minus61) z) g)
 
 pub ratio-requires : goal.ratio-requires
-ratio-requires c = parts c.args.q c.excess.result c.requires c.excess.ensures c.to_f64-u.ensures c.to_f64-v.ensures
+ratio-requires c = parts c.args.q c.saturating_sub-excess.result c.requires c.saturating_sub-excess.ensures c.to_f64-u.ensures c.to_f64-v.ensures
 
 pub returns : goal.returns
 returns c =
-    second_is c.args.q c.excess.result c.ratio.result c.lowered.result c.excess.ensures c.to_f64-u.ensures c.to_f64-v.ensures c.ratio.ensures.bits c.lowered.ensures
+    second_is c.args.q c.saturating_sub-excess.result c.ratio.result c.saturating_sub.result c.saturating_sub-excess.ensures c.to_f64-u.ensures c.to_f64-v.ensures c.ratio.ensures.bits c.saturating_sub.ensures

@@ -1,42 +1,34 @@
--- `product::chain` meets its contract. The invariant: what is computed is the chain of the entries from i on.
-use Rattle.std.proofs.Common.{◌≡◌, ℕ, ◌-◌, ◌^◌, ◌<◌, ◌≤◌, length, drop, sym, ap, ◌∙◌, le_refl, arith}
-use lib.Seq.{drop-length}
-use borrow.Author.Rules.{scaled_Fits}
+-- `product::chain` meets its contract.
+use Rattle.std.proofs.Common.{◌≡◌, ℕ, ◌^◌, ◌<◌, T, List, sym, ap, ◌∙◌, subst}
+use Rattle.std.proofs.lemmas.List.{nil_from_length}
+use Rattle.std.specs.List.{push}
 use Rattle.elementary_fixed_point.specs.Product.{horner}
-use Rattle.elementary_fixed_point.proofs.Chains.{below_at, horner_drop}
+use Rattle.elementary_fixed_point.specs.Code.Bounds.{below}
+use Rattle.elementary_fixed_point.proofs.Chains.{horner_onto, onto_none, onto_last, below_last}
 use Rattle.elementary_fixed_point.proofs.product.chain.Goals as goal
 
-under : (i n : ℕ) → 0 < i → i ≤ n → i - 1 < n
-under i n z h = omega arith
+all : (w : ℕ) (left c : List ℕ) → left ≡ c → T (below (2 ^ 63) c) → (horner_onto w 0 left ≡ horner w c) × T (below (2 ^ 63) left)
+all w left c e t = (ap (horner_onto w 0) e ∙ onto_none w c, subst (λ z. T (below (2 ^ 63) z)) (sym e) t)
 
-zero_left : (i : ℕ) → i ≤ 0 → i ≡ 0
-zero_left i h = omega arith
+-- the entries behind and before the last one
+last : (left cs : List ℕ) (c : ℕ) → left ≡ push cs c → T (below (2 ^ 63) left) → T (below (2 ^ 63) cs) × (c < 2 ^ 63)
+last left cs c e t = below_last (2 ^ 63) c cs (subst (λ z. T (below (2 ^ 63) z)) e t)
 
-pub loop-i-init : goal.loop-i-init
-unfolding horner
-loop-i-init c = (le_refl _, sym (ap (horner c.args.w) (drop-length c.args.c.now)))
-
-pub overflow_sub-i : goal.overflow_sub-i
-overflow_sub-i c = omega arith
-
-pub offset_bounds-c-i : goal.offset_bounds-c-i
-offset_bounds-c-i c = scaled_Fits (c.loop-i.i - 1) (length c.args.c.now) 8 (omega arith) c.well_formed.1.0.1
-
-pub bounds-c-i : goal.bounds-c-i
-bounds-c-i c = omega arith
+pub loop-coefficient-init : goal.loop-coefficient-init
+loop-coefficient-init c =
+    all c.args.w _ c.args.c.now
+    (ap (λ z. z.iter.rest.now) c.into_iter-coefficient-iterator.ensures.into_iter_gives ∙ ap (λ z. z.rest.now) c.rev-coefficient-items.ensures.source ∙ c.iter.ensures.rest) c.requires.t
 
 pub horner_step-p-requires : goal.horner_step-p-requires
-horner_step-p-requires c =
-    let xs = c.args.c.now in
-    let i = c.loop-i.i in
-    (below_at (2 ^ 63) xs c.requires.t (i - 1) (under i (length xs) c.loop-i-test.true c.loop-i.invariant.0), c.requires.w_bound)
+horner_step-p-requires c = ((last _ _ _ c.in-Some.ensures.steps c.loop-coefficient.invariant.1).1, c.requires.w_bound)
 
-pub loop-i-smaller : goal.loop-i-smaller
-loop-i-smaller c = under _ _ c.loop-i-test.true (le_refl _)
-
-pub loop-i-preserved : goal.loop-i-preserved
-loop-i-preserved c =
-    (omega arith, c.horner_step-p.ensures ∙ horner_drop c.args.w c.args.c.now c.loop-i.i c.loop-i.p c.loop-i-test.true c.loop-i.invariant.0 c.loop-i.invariant.1)
+pub loop-coefficient-preserved : goal.loop-coefficient-preserved
+loop-coefficient-preserved c =
+    let w = c.args.w in let p = c.loop-coefficient.p in let x = c.in-Some.coefficient.now in (
+      ap (λ z. horner_onto w z c.next.new.self.iter.rest.now) c.horner_step-p.ensures ∙ sym (onto_last w p x _) ∙ ap (horner_onto w p) (sym c.in-Some.ensures.steps) ∙ c.loop-coefficient.invariant.0,
+      (last _ _ _ c.in-Some.ensures.steps c.loop-coefficient.invariant.1).0,
+    )
 
 pub returns : goal.returns
-returns c = c.loop-i.invariant.1 ∙ ap (λ (k : ℕ). horner c.args.w (drop k c.args.c.now)) (zero_left _ c.loop-i-test.false)
+unfolding horner_onto
+returns c = ap (horner_onto c.args.w c.loop-coefficient.p) (sym (nil_from_length _ c.in-None.ensures.steps.0)) ∙ c.loop-coefficient.invariant.0

@@ -1,5 +1,5 @@
 -- `quotient::ratio` meets its contract.
-use Rattle.std.proofs.Common.{◌≡◌, ℕ, ◌-◌, ◌^◌, ◌<◌, sym, ap, subst, arith}
+use Rattle.std.proofs.Common.{◌≡◌, ℕ, ◌-◌, ◌^◌, sym, ap, ◌∙◌, subst}
 use lib.Ieee.{Float, binary64, div}
 use Rattle.elementary_fixed_point.specs.Conversion.{fixed}
 use Rattle.elementary_fixed_point.specs.Ratio.{ratio}
@@ -11,18 +11,10 @@ both : (a b : Float) → Proper a b → (x : ℕ) → x ≡ fixed (div binary64 
 unfolding ratio
 both a b h x e = (e, subst (NearRatio a b) (sym e) (ratio_near a b h))
 
-none : (x y : ℕ) → x ≡ y → x < 256 → 0 ≡ y - 2 ^ 8
-none x y e h = omega arith
-
 pub from_f64-x-requires : goal.from_f64-x-requires
 from_f64-x-requires c = quotient_fixable c.args.a c.args.b c.requires
 
-pub returns-then-x-lt256 : goal.returns-then-x-lt256
-returns-then-x-lt256 c =
-    let both = both c.args.a c.args.b c.requires 0 (none c.from_f64-x.result (fixed (div binary64 c.args.a c.args.b)) c.from_f64-x.ensures c.if-x-lt256.true) in
-    record { bits = both.0; near = both.1 }
-
-pub returns-else-x-lt256 : goal.returns-else-x-lt256
-returns-else-x-lt256 c =
-    let both = both c.args.a c.args.b c.requires (c.from_f64-x.result - 256) (ap (λ (x : ℕ). x - 256) c.from_f64-x.ensures) in
+pub returns : goal.returns
+returns c =
+    let both = both c.args.a c.args.b c.requires _ (c.saturating_sub.ensures ∙ ap (λ (x : ℕ). x - 256) c.from_f64-x.ensures) in
     record { bits = both.0; near = both.1 }

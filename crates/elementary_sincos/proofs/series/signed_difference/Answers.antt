@@ -16,4 +16,4 @@ is : (p n d : ℕ) (s : Bool) (u v : Float) → d ≡ distance p n → u ≡ sig
 is p n d s u v a b e = e ∙ ap (λ (z : ℕ). scaled z u) a ∙ ap (scaled (distance p n)) b ∙ signed_difference p n s
 
 pub returns : goal.returns
-returns c = let s = c.args in is s.p s.n _ s.negative _ _ c.gap-d.ensures c.signed_unit-u.ensures c.to_f64.ensures
+returns c = let s = c.args in is s.p s.n _ s.negative _ _ c.abs_diff-d.ensures c.signed_unit-u.ensures c.to_f64.ensures

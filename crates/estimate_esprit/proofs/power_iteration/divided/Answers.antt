@@ -1,20 +1,14 @@
--- `estimate_esprit::power_iteration::divided` meets its contract: before turn i the first i quotients stand in the table. Assumes nothing.
-use mathlib.Core.Path.{refl}
-use native.Mathlib.Omega.{arith}
-use lib.ListN.{length-set}
-use Rattle.sums.proofs.Tables.{table_start, table_next, table_end}
-use Rattle.estimate_esprit.specs.Esprit.{divided_by}
-use borrow.Author.Rules.{rules}
+-- `divided`: each call makes one quotient.
+use Rattle.std.proofs.Common.{◌≡◌, rules}
+use lib.Ieee.{nan, binary64}
+use Rattle.sums.specs.Complex.{div_c}
+use Rattle.sums.specs.Interleaved.{parts, number}
+use Rattle.sums.proofs.Numbers.{made}
+use Rattle.estimate_esprit.proofs.VectorLaws.{quotient_is}
 use Rattle.estimate_esprit.proofs.power_iteration.divided.Goals as goal
 
-pub loop-i-init : goal.loop-i-init
-loop-i-init c = (table_start _, search rules, search rules)
-
-pub loop-i-preserved : goal.loop-i-preserved
-loop-i-preserved c = (table_next _ _ _ (omega arith) c.loop-i.invariant.0 refl, omega arith, simp length-set (omega arith))
-
 pub returns : goal.returns
-unfolding divided_by
 returns c =
-    let l = c.loop-i in
-    table_end _ l.i 10 _ l.invariant.0 (omega arith) (omega arith) l.invariant.2
+    let w = c.args.w.now in
+    quotient_is w c.args.d c.from_fn.result
+    (made _ (λ i y. parts y ≡ div_c binary64 (number w i) c.args.d) _ 10 (λ i y q h k. search rules) c.from_fn.result (record { re = nan; im = nan }) c.from_fn.ensures.items.each)

@@ -1,19 +1,16 @@
--- `estimate_esprit::power_iteration::matrix_times` meets its contract: before turn i the first i rows stand in the table. Assumes nothing.
-use native.Mathlib.Omega.{arith}
-use lib.ListN.{length-set}
-use Rattle.sums.proofs.Tables.{table_start, table_next, table_end}
-use Rattle.estimate_esprit.specs.Esprit.{matrix_times}
-use borrow.Author.Rules.{rules}
+-- `matrix_times`: each call makes one number.
+use Rattle.std.proofs.Common.{◌≡◌, [], get_or, rules}
+use lib.Ieee.{nan, binary64}
+use Rattle.sums.specs.Ascending.{sum_to}
+use Rattle.sums.specs.Complex.{add_c, mul_c}
+use Rattle.sums.specs.Interleaved.{parts, number}
+use Rattle.sums.proofs.Numbers.{made}
+use Rattle.estimate_esprit.proofs.VectorLaws.{product_is}
 use Rattle.estimate_esprit.proofs.power_iteration.matrix_times.Goals as goal
 
-pub loop-i-init : goal.loop-i-init
-loop-i-init c = (table_start _, search rules, search rules)
-
-pub loop-i-preserved : goal.loop-i-preserved
-loop-i-preserved c = (table_next _ _ _ (omega arith) c.loop-i.invariant.0 c.row_times-s.ensures, omega arith, simp length-set (omega arith))
-
 pub returns : goal.returns
-unfolding matrix_times
 returns c =
-    let l = c.loop-i in
-    table_end _ l.i 10 _ l.invariant.0 (omega arith) (omega arith) l.invariant.2
+    let r = c.args.r.now in
+    let u = c.args.u.now in
+    product_is r u c.from_fn.result
+    (made _ (λ i y. parts y ≡ sum_to (add_c binary64) (λ j. mul_c binary64 (number (get_or r i []) j) (number u j)) 9) _ 10 (λ i y q h k. search rules) c.from_fn.result (record { re = nan; im = nan }) c.from_fn.ensures.items.each)

@@ -1,24 +1,44 @@
--- `estimate_esprit::power_iteration::row_times` meets its contract: before turn j the sum has the terms 0 to j. Assumes nothing.
-use native.Mathlib.Omega.{arith}
-use lib.Ieee.{binary64}
+-- `row_times`: the next term is that of numbers k + 1.
+use Rattle.std.proofs.Common.{◌≡◌, ◌+◌, ◌<◌, ◌∙◌, ap, length, take, drop, length-drop, length-take-le, arith, rules}
+use Rattle.std.proofs.lemmas.List.{length_push}
+use Rattle.std.proofs.lemmas.Slice.Zip.{zip_turn, zip_end}
+use Rattle.std.specs.Iterator.Adapters.{zip_second}
+use Rattle.std.specs.Slice.Iter.{iter_rest}
+use lib.Ieee.{nan, binary64}
+use Rattle.sums.specs.declared.complex.Complex.{Complex}
 use Rattle.sums.specs.Ascending.{sum_from}
-use Rattle.sums.specs.Complex.{add_c}
-use Rattle.sums.specs.Interleaved.{at}
+use Rattle.sums.specs.Complex.{Cx, add_c, mul_c}
+use Rattle.sums.specs.Interleaved.{parts, number}
 use Rattle.sums.proofs.Adding.{sum_next, sum_end}
-use Rattle.estimate_esprit.proofs.EstimateCases.{first_term}
-use borrow.Author.Rules.{rules}
+use Rattle.estimate_esprit.proofs.VectorLaws.{number_later}
 use Rattle.estimate_esprit.proofs.power_iteration.row_times.Goals as goal
 
-pub loop-j-init : goal.loop-j-init
+pub loop-r-init : goal.loop-r-init
 unfolding sum_from
-loop-j-init c =
-    let s = c.args in
-    (first_term s.r.now s.i (at s.u.now 0) c.product-f.ensures, search rules)
+loop-r-init c = c.mul-sum.ensures
 
-pub loop-j-preserved : goal.loop-j-preserved
-loop-j-preserved c = (sum_next (add_c binary64) _ _ _ c.loop-j.invariant.0 c.product-t.ensures, omega arith)
+pub loop-r-preserved : goal.loop-r-preserved
+loop-r-preserved c =
+    let row = c.args.row.now in
+    let u = c.args.u.now in
+    let k = length c.loop-r.yielded in
+    let second : iter_rest (zip_second c.zip-r-items.result) ≡ take 9 (drop 1 u) = c.zip-r-items.ensures.second.0 in
+    let t = zip_turn (take 9 (drop 1 row)) (take 9 (drop 1 u)) c.loop-r.yielded c.into_iter-r-iterator.result c.loop-r.r-iterator c.next.new.self _ (search rules) (ap (λ z. iter_rest (zip_second z)) c.into_iter-r-iterator.ensures.into_iter_gives ∙ second) c.loop-r.yielded_by _ c.in-Some.is c.next.ensures.steps in
+    let none : Complex = record { re = nan; im = nan } in
+    let lt : k < 9 = omega (arith, length-take-le 9 (drop 1 u) (omega (arith, length-drop 1 u))) in
+    let term =
+    c.mul.ensures
+    ∙ ap (λ (z : Cx). mul_c binary64 z (parts c.in-Some.field-0-1.now)) (ap parts (t.2 none) ∙ number_later row k lt)
+    ∙ ap (mul_c binary64 (number row (k + 1))) (ap parts (t.3 none) ∙ number_later u k lt) in
+    rw (length_push c.loop-r.yielded (c.in-Some.field-0-0, c.in-Some.field-0-1))
+    (c.add-sum.ensures ∙ sum_next (add_c binary64) _ _ k c.loop-r.invariant term)
 
 pub returns : goal.returns
 returns c =
-    let l = c.loop-j in
-    sum_end (add_c binary64) _ _ l.j 9 l.invariant.0 (omega arith) (omega arith)
+    let row = c.args.row.now in
+    let u = c.args.u.now in
+    let second : iter_rest (zip_second c.zip-r-items.result) ≡ take 9 (drop 1 u) = c.zip-r-items.ensures.second.0 in
+    let e = zip_end (take 9 (drop 1 row)) (take 9 (drop 1 u)) c.loop-r.yielded c.into_iter-r-iterator.result c.loop-r.r-iterator c.next.new.self _ (search rules) (ap (λ z. iter_rest (zip_second z)) c.into_iter-r-iterator.ensures.into_iter_gives ∙ second) c.loop-r.yielded_by c.in-None.is c.next.ensures.steps in
+    let l = length-take-le 9 (drop 1 row) (omega (arith, length-drop 1 row)) in
+    let m = length-take-le 9 (drop 1 u) (omega (arith, length-drop 1 u)) in
+    sum_end (add_c binary64) _ _ (length c.loop-r.yielded) 9 c.loop-r.invariant (omega (arith, e, l, m)) (omega (arith, e, l, m))

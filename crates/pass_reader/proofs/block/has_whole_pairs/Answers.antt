@@ -1,16 +1,14 @@
 -- `pass_reader::block::has_whole_pairs` meets its contract. One test after the other.
-use borrow.Author.Tests.{ne_eqb, eq-eqb, lt-leb, le-leb}
+use Rattle.std.proofs.Common.{arith}
+use Rattle.std.proofs.lemmas.Bool.Decides.{nat_tests}
 use Rattle.pass_reader.specs.Lines.{whole_pairs}
+use Rattle.pass_reader.proofs.block.has_whole_pairs.Goals.{then-t-eq0, else-t-eq0}
 use Rattle.pass_reader.proofs.block.has_whole_pairs.Goals as goal
 
-pub returns-then-t-ne0 : goal.returns-then-t-ne0
+pub returns-then-t-ge16 : goal.returns-then-t-ge16
 unfolding whole_pairs
-returns-then-t-ne0 c = rw (ne_eqb _ _ c.if-t-ne0.true)
+returns-then-t-ge16 c = grind (arith, nat_tests)
 
-pub returns-then-t-lt16 : goal.returns-then-t-lt16
+pub returns-else-t-ge16 : goal.returns-else-t-ge16
 unfolding whole_pairs
-returns-then-t-lt16 c = rw (eq-eqb _ _ c.if-t-ne0.false, lt-leb _ _ c.if-t-lt16.true)
-
-pub returns : goal.returns
-unfolding whole_pairs
-returns c = rw (eq-eqb _ _ c.if-t-ne0.false, le-leb _ _ c.if-t-lt16.false)
+returns-else-t-ge16 c = elim c.if-t-eq0.branch [ then-t-eq0 w ↦ grind (arith, nat_tests) | else-t-eq0 w ↦ grind (arith, nat_tests) ]

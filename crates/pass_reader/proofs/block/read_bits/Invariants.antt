@@ -9,9 +9,11 @@ use Rattle.pass_reader.specs.Lines.{bits_of}
 use Rattle.pass_reader.proofs.block.read_bits.Given as goal
 
 abbrev pub invariant-loop-i : goal.invariant-loop-i
-invariant-loop-i l =
-    (l.i ≤ l.n) × (l.n ≡ length l.t / 8) × (8 * l.n ≡ length l.t) × (l.n ≤ 4096) × (length l.bits ≡ length l.initial.bits)
-    × (every (is_digit 16) (drop (8 * l.i) l.t) ≡ every (is_digit 16) l.t) × (bits_of l.n l.t ≡ take l.i l.bits ++ bits_of (l.n - l.i) (drop (8 * l.i) l.t))
-
-abbrev pub decreases-loop-i : goal.decreases-loop-i
-decreases-loop-i l = l.n - l.i
+invariant-loop-i l = record {
+  groups : l.n ≡ length l.t / 8;
+  whole : 8 * l.n ≡ length l.t;
+  few : l.n ≤ 4096;
+  room : length l.bits ≡ length l.initial.bits;
+  digits : every (is_digit 16) (drop (8 * l.i) l.t) ≡ every (is_digit 16) l.t;
+  read : bits_of l.n l.t ≡ take l.i l.bits ++ bits_of (l.n - l.i) (drop (8 * l.i) l.t);
+}

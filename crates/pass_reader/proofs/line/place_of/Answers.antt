@@ -1,15 +1,15 @@
--- `pass_reader::line::place_of` meets its contract. Loop: the bytes passed are none of those looked for, so the place of the first is i and what is left of it.
-use native.Mathlib.Omega.{arith}
-use Rattle.pass_reader.proofs.ByteLaws.{place_here, place_next, place_end}
+-- `pass_reader::line::place_of` meets its contract. The place of the first b is where the search stops.
+use Rattle.std.proofs.Common.{◌≡◌, ℕ, Option, eqb, length, ◌∙◌, ap, rules, tests}
+use Rattle.std.specs.List.{position}
+use Rattle.std.specs.Option.{unwrap_or}
+use Rattle.std.proofs.lemmas.Iterator.{YieldsList-from_slice}
+use Rattle.std.proofs.lemmas.Iterator.Search.{position_from_yields_List}
+use Rattle.pass_reader.proofs.ByteLaws.{place_found}
 use Rattle.pass_reader.proofs.line.place_of.Goals as goal
 
-pub returns-then-s-i : goal.returns-then-s-i
-returns-then-s-i c = let e = place_here c.args.b c.args.s.now c.loop-i.i (omega arith) c.if-s-i.true in omega arith
-
-pub loop-i-preserved : goal.loop-i-preserved
-loop-i-preserved c =
-    let e = place_next c.args.b c.args.s.now c.loop-i.i (omega arith) c.if-s-i.false in
-    (omega arith, omega arith)
-
 pub returns : goal.returns
-returns c = let e = place_end c.args.b c.args.s.now c.loop-i.i (omega arith) in omega arith
+returns c =
+    let s = c.args.s.now in
+    let found : c.position.result ≡ position (λ x. eqb x c.args.b) s =
+    position_from_yields_List (λ x. eqb x c.args.b) _ _ _ c.position.ensures.ran (YieldsList-from_slice s cc) (λ x t q h. search (rules, tests)) in
+    c.unwrap_or.ensures ∙ ap (λ (o : Option ℕ). unwrap_or o (length s)) found ∙ place_found c.args.b s

@@ -4,11 +4,11 @@ use native.Mathlib.Omega.{arith}
 use Rattle.pass_reader.proofs.NumberLaws.{shape_short, unshaped, shaped}
 use Rattle.pass_reader.proofs.number.decimal.Goals as goal
 
-pub returns-then-not-has_decimal_shape : goal.returns-then-not-has_decimal_shape
-returns-then-not-has_decimal_shape c = unshaped _ (sym c.has_decimal_shape.ensures ∙ c.if-not-has_decimal_shape.true)
-
 pub digits-requires : goal.digits-requires
-digits-requires c = (shape_short _ (sym c.has_decimal_shape.ensures ∙ c.if-not-has_decimal_shape.false), omega arith)
+digits-requires c = (shape_short _ (sym c.has_decimal_shape.ensures ∙ c.if-has_decimal_shape.true), omega arith)
 
-pub returns : goal.returns
-returns c = c.digits.ensures ∙ shaped _ (sym c.has_decimal_shape.ensures ∙ c.if-not-has_decimal_shape.false)
+pub returns-then-has_decimal_shape : goal.returns-then-has_decimal_shape
+returns-then-has_decimal_shape c = c.digits.ensures ∙ shaped _ (sym c.has_decimal_shape.ensures ∙ c.if-has_decimal_shape.true)
+
+pub returns-else-has_decimal_shape : goal.returns-else-has_decimal_shape
+returns-else-has_decimal_shape c = unshaped _ (sym c.has_decimal_shape.ensures ∙ c.if-has_decimal_shape.false)

@@ -4,17 +4,17 @@ use native.Mathlib.Omega.{arith}
 use Rattle.pass_reader.proofs.NumberLaws.{below_digits, decimal_digit, between_digits, letter_digit, above_digits}
 use Rattle.pass_reader.proofs.number.digit.Goals as goal
 
-pub returns-then-b-lt48 : goal.returns-then-b-lt48
-returns-then-b-lt48 c = below_digits _ c.if-b-lt48.true
+pub returns-in-48-to-57 : goal.returns-in-48-to-57
+returns-in-48-to-57 c = c.from.ensures ∙ decimal_digit _ (omega arith) (omega arith)
 
-pub returns-then-b-le57 : goal.returns-then-b-le57
-returns-then-b-le57 c = c.wide.ensures ∙ decimal_digit _ (omega arith) (omega arith)
+pub returns-in-97-to-102 : goal.returns-in-97-to-102
+returns-in-97-to-102 c = let e = c.from-in-97-to-102.ensures in let d = letter_digit c.args.b (omega arith) (omega arith) in omega arith
 
-pub returns-then-b-lt97 : goal.returns-then-b-lt97
-returns-then-b-lt97 c = between_digits _ (omega arith) (omega arith)
+pub returns-in_default : goal.returns-in_default
+returns-in_default c = below_digits _ (omega arith)
 
-pub returns-then-b-le102 : goal.returns-then-b-le102
-returns-then-b-le102 c = c.wide-then-b-le102.ensures ∙ letter_digit _ (omega arith) (omega arith)
+pub returns-in_default-2 : goal.returns-in_default-2
+returns-in_default-2 c = between_digits _ (omega arith) (omega arith)
 
-pub returns : goal.returns
-returns c = above_digits _ (omega arith)
+pub returns-in_default-3 : goal.returns-in_default-3
+returns-in_default-3 c = above_digits _ (omega arith)

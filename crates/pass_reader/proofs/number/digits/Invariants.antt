@@ -1,15 +1,16 @@
 -- `pass_reader::number::digits` meets its contract. Loop: the digits read so far make v, which stays below 16 to the power of their count; what is left of the test and of the number is that of the whole.
 use mathlib.Core.Path.{◌≡◌}
-use Prim.Native.Nat.{◌≤◌, ◌<◌, ◌-◌, ◌^◌}
+use Prim.Native.Nat.{◌≤◌, ◌<◌, ◌^◌}
 use lib.ListN.{length, drop}
 use Rattle.sequences.specs.Folds.{fold, every}
 use Rattle.pass_reader.specs.Numbers.{is_digit, digit_behind}
 use Rattle.pass_reader.proofs.number.digits.Given as goal
 
-abbrev pub invariant-loop-i : goal.invariant-loop-i
-invariant-loop-i l =
-    (l.i ≤ length l.s) × (length l.s ≤ 12) × (l.base ≤ 16) × (l.v < 16 ^ l.i) × (every (is_digit l.base) (drop l.i l.s) ≡ every (is_digit l.base) l.s)
-    × (fold (digit_behind l.base) l.v (drop l.i l.s) ≡ fold (digit_behind l.base) 0 l.s)
-
-abbrev pub decreases-loop-i : goal.decreases-loop-i
-decreases-loop-i l = length l.s - l.i
+abbrev pub invariant-loop-b : goal.invariant-loop-b
+invariant-loop-b l = record {
+  short : length l.s ≤ 12;
+  base : l.base ≤ 16;
+  below : l.v < 16 ^ l.b-index;
+  digits : every (is_digit l.base) (drop l.b-index l.s) ≡ every (is_digit l.base) l.s;
+  number : fold (digit_behind l.base) l.v (drop l.b-index l.s) ≡ fold (digit_behind l.base) 0 l.s;
+}

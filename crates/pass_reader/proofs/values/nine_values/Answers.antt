@@ -1,69 +1,127 @@
--- `pass_reader::values::nine_values` meets its contract. Loop: the k numbers read so far, in front of those that the fields from `at` on write, are the numbers of the line.
-use mathlib.Core.List.{List}
+-- `pass_reader::values::nine_values` meets its contract. Field by field: each is taken, or is missing, which ends it.
+use Rattle.std.proofs.Common.{Some, None, rules}
 use mathlib.Core.Path.{◌≡◌, sym, ◌∙◌, ap}
-use mathlib.Core.Option.{Option, some, bind}
-use Prim.Native.Nat.{ℕ, ◌<◌, ◌+◌, ◌-◌}
-use native.Mathlib.Omega.{arith}
-use lib.Seq.{length-take-le}
-use lib.ListN.{length, take, drop, length-set}
-use borrow.Author.Rules.{rules}
-use Rattle.pass_reader.specs.Lines.{nine_values}
-use Rattle.pass_reader.specs.Numbers.{decimal_of}
-use Rattle.pass_reader.specs.Code.Answers.{value_in}
-use Rattle.pass_reader.proofs.ByteLaws.{found_from, end_within}
-use Rattle.pass_reader.proofs.ValuesLaws.{front_nil, no_decimal, more_decimals, last_decimal, none_say, many_say}
+use mathlib.Core.Bool.{true, false}
+use mathlib.Core.List.{[], ◌∷◌}
+use Rattle.pass_reader.specs.Bytes.{fields}
+use Rattle.pass_reader.specs.Code.Answers.{fields_of}
+use Rattle.pass_reader.proofs.ValuesLaws.{ahead, nine_taken, decimal_taken, decimal_missing, switch_taken, switch_missing, too_many, all_taken}
 use Rattle.pass_reader.proofs.values.nine_values.Goals as goal
 
-pub loop-k-init : goal.loop-k-init
-loop-k-init c = (omega arith, omega arith, search rules, front_nil _)
+pub returns-in_err-decimal : goal.returns-in_err-decimal
+returns-in_err-decimal c =
+    let n : c.from_residual.result ≡ None = search rules in
+    rw n (nine_taken c.args.s.now
+    (decimal_missing (false ∷ false ∷ true ∷ true ∷ true ∷ false ∷ false ∷ false ∷ []) (fields c.args.s.now) (fields_of c.decimal.new.self.rest) c.decimal.ensures c.in_err-decimal.was))
 
-pub overflow_add-end : goal.overflow_add-end
-overflow_add-end c = let e = end_within c.args.s.now c.loop-k.at _ c.loop-k.invariant.1
-    (found_from 32 c.args.s.now c.loop-k.at c.place_of.result c.place_of.ensures) in
-    record { fits = omega arith }
+pub returns-in_err-decimal-2 : goal.returns-in_err-decimal-2
+returns-in_err-decimal-2 c =
+    let n : c.from_residual-in_err-decimal-2.result ≡ None = search rules in
+    rw n (nine_taken c.args.s.now
+    (decimal_taken (false ∷ false ∷ true ∷ true ∷ true ∷ false ∷ false ∷ false ∷ []) (fields c.args.s.now) (fields_of c.decimal.new.self.rest) c.decimal.ensures _ c.in_ok-decimal.was ∙ ap (ahead (Some _))
+    (decimal_missing (false ∷ true ∷ true ∷ true ∷ false ∷ false ∷ false ∷ []) (fields_of c.decimal.new.self.rest) (fields_of c.decimal-2.new.self.rest) c.decimal-2.ensures c.in_err-decimal-2.was)))
 
-pub slice_bounds-decimal-end : goal.slice_bounds-decimal-end
-slice_bounds-decimal-end c =
-    end_within c.args.s.now c.loop-k.at _ c.loop-k.invariant.1
-    (found_from 32 c.args.s.now c.loop-k.at c.place_of.result c.place_of.ensures)
+pub returns-in_err-decimal-3 : goal.returns-in_err-decimal-3
+returns-in_err-decimal-3 c =
+    let n : c.from_residual-in_err-decimal-3.result ≡ None = search rules in
+    rw n (nine_taken c.args.s.now
+    (decimal_taken (false ∷ false ∷ true ∷ true ∷ true ∷ false ∷ false ∷ false ∷ []) (fields c.args.s.now) (fields_of c.decimal.new.self.rest) c.decimal.ensures _ c.in_ok-decimal.was ∙ ap (ahead (Some _))
+    (decimal_taken (false ∷ true ∷ true ∷ true ∷ false ∷ false ∷ false ∷ []) (fields_of c.decimal.new.self.rest) (fields_of c.decimal-2.new.self.rest) c.decimal-2.ensures _ c.in_ok-decimal-2.was ∙ ap (ahead (Some _))
+    (decimal_missing (true ∷ true ∷ true ∷ false ∷ false ∷ false ∷ []) (fields_of c.decimal-2.new.self.rest) (fields_of c.decimal-3.new.self.rest) c.decimal-3.ensures c.in_err-decimal-3.was))))
 
-pub returns-in_default : goal.returns-in_default
-returns-in_default c = let s = c.args.s.now in
-    let at = c.loop-k.at in
-    none_say
-    (no_decimal s c.loop-k.v at (at + c.place_of.result) c.loop-k.k c.loop-k.invariant.1 (found_from 32 s at _ c.place_of.ensures) c.loop-k.invariant.3 (ap value_in (sym c.in_default.is) ∙ c.decimal-field.ensures))
+pub returns-in_err-switch : goal.returns-in_err-switch
+returns-in_err-switch c =
+    let n : c.from_residual-in_err-switch.result ≡ None = search rules in
+    rw n (nine_taken c.args.s.now
+    (decimal_taken (false ∷ false ∷ true ∷ true ∷ true ∷ false ∷ false ∷ false ∷ []) (fields c.args.s.now) (fields_of c.decimal.new.self.rest) c.decimal.ensures _ c.in_ok-decimal.was ∙ ap (ahead (Some _))
+    (decimal_taken (false ∷ true ∷ true ∷ true ∷ false ∷ false ∷ false ∷ []) (fields_of c.decimal.new.self.rest) (fields_of c.decimal-2.new.self.rest) c.decimal-2.ensures _ c.in_ok-decimal-2.was ∙ ap (ahead (Some _))
+    (decimal_taken (true ∷ true ∷ true ∷ false ∷ false ∷ false ∷ []) (fields_of c.decimal-2.new.self.rest) (fields_of c.decimal-3.new.self.rest) c.decimal-3.ensures _ c.in_ok-decimal-3.was ∙ ap (ahead (Some _))
+    (switch_missing (true ∷ true ∷ false ∷ false ∷ false ∷ []) (fields_of c.decimal-3.new.self.rest) (fields_of c.switch.new.self.rest) c.switch.ensures c.in_err-switch.was)))))
 
-pub returns-then-end-s : goal.returns-then-end-s
-unfolding bind
-returns-then-end-s c = let s = c.args.s.now in
-    let at = c.loop-k.at in
-    let e : some c.in-Value.x ≡ decimal_of (take (at + c.place_of.result - at) (drop at s)) = ap value_in
-    (sym c.in-Value.is) ∙ c.decimal-field.ensures in
-    c.values_from.ensures ∙ ap (λ (o : Option (List ℕ)). bind o nine_values)
-    (sym (last_decimal s c.loop-k.v at (at + c.place_of.result) c.loop-k.k c.loop-k.invariant.1 (found_from 32 s at _ c.place_of.ensures) c.loop-k.invariant.3 c.in-Value.x (omega arith) e (omega arith)))
+pub returns-in_err-switch-2 : goal.returns-in_err-switch-2
+returns-in_err-switch-2 c =
+    let n : c.from_residual-in_err-switch-2.result ≡ None = search rules in
+    rw n (nine_taken c.args.s.now
+    (decimal_taken (false ∷ false ∷ true ∷ true ∷ true ∷ false ∷ false ∷ false ∷ []) (fields c.args.s.now) (fields_of c.decimal.new.self.rest) c.decimal.ensures _ c.in_ok-decimal.was ∙ ap (ahead (Some _))
+    (decimal_taken (false ∷ true ∷ true ∷ true ∷ false ∷ false ∷ false ∷ []) (fields_of c.decimal.new.self.rest) (fields_of c.decimal-2.new.self.rest) c.decimal-2.ensures _ c.in_ok-decimal-2.was ∙ ap (ahead (Some _))
+    (decimal_taken (true ∷ true ∷ true ∷ false ∷ false ∷ false ∷ []) (fields_of c.decimal-2.new.self.rest) (fields_of c.decimal-3.new.self.rest) c.decimal-3.ensures _ c.in_ok-decimal-3.was ∙ ap (ahead (Some _))
+    (switch_taken (true ∷ true ∷ false ∷ false ∷ false ∷ []) (fields_of c.decimal-3.new.self.rest) (fields_of c.switch.new.self.rest) c.switch.ensures _ c.in_ok-switch.was ∙ ap (ahead (Some _))
+    (switch_missing (true ∷ false ∷ false ∷ false ∷ []) (fields_of c.switch.new.self.rest) (fields_of c.switch-2.new.self.rest) c.switch-2.ensures c.in_err-switch-2.was))))))
 
-pub overflow_add-at : goal.overflow_add-at
-overflow_add-at c = let e = end_within c.args.s.now c.loop-k.at _ c.loop-k.invariant.1
-    (found_from 32 c.args.s.now c.loop-k.at c.place_of.result c.place_of.ensures)
-    in
-    record { fits = omega arith }
+pub returns-in_err-switch-3 : goal.returns-in_err-switch-3
+returns-in_err-switch-3 c =
+    let n : c.from_residual-in_err-switch-3.result ≡ None = search rules in
+    rw n (nine_taken c.args.s.now
+    (decimal_taken (false ∷ false ∷ true ∷ true ∷ true ∷ false ∷ false ∷ false ∷ []) (fields c.args.s.now) (fields_of c.decimal.new.self.rest) c.decimal.ensures _ c.in_ok-decimal.was ∙ ap (ahead (Some _))
+    (decimal_taken (false ∷ true ∷ true ∷ true ∷ false ∷ false ∷ false ∷ []) (fields_of c.decimal.new.self.rest) (fields_of c.decimal-2.new.self.rest) c.decimal-2.ensures _ c.in_ok-decimal-2.was ∙ ap (ahead (Some _))
+    (decimal_taken (true ∷ true ∷ true ∷ false ∷ false ∷ false ∷ []) (fields_of c.decimal-2.new.self.rest) (fields_of c.decimal-3.new.self.rest) c.decimal-3.ensures _ c.in_ok-decimal-3.was ∙ ap (ahead (Some _))
+    (switch_taken (true ∷ true ∷ false ∷ false ∷ false ∷ []) (fields_of c.decimal-3.new.self.rest) (fields_of c.switch.new.self.rest) c.switch.ensures _ c.in_ok-switch.was ∙ ap (ahead (Some _))
+    (switch_taken (true ∷ false ∷ false ∷ false ∷ []) (fields_of c.switch.new.self.rest) (fields_of c.switch-2.new.self.rest) c.switch-2.ensures _ c.in_ok-switch-2.was ∙ ap (ahead (Some _))
+    (switch_missing (false ∷ false ∷ false ∷ []) (fields_of c.switch-2.new.self.rest) (fields_of c.switch-3.new.self.rest) c.switch-3.ensures c.in_err-switch-3.was)))))))
 
-pub loop-k-preserved : goal.loop-k-preserved
-loop-k-preserved c = let s = c.args.s.now in
-    let at = c.loop-k.at in
-    let f = found_from 32 s at c.place_of.result c.place_of.ensures in
-    let b = end_within s at _ c.loop-k.invariant.1 f in
-    let e : some c.in-Value.x ≡ decimal_of (take (at + c.place_of.result - at) (drop at s)) = ap value_in (sym c.in-Value.is) ∙
-    c.decimal-field.ensures in
-    let q : at + c.place_of.result < length s = (let n = c.if-end-s.false in omega arith) in (
-      omega arith,
-      omega arith,
-      simp length-set c.loop-k.invariant.2,
-      more_decimals s c.loop-k.v at (at + c.place_of.result) c.loop-k.k c.loop-k.invariant.1 f c.loop-k.invariant.3
-          c.in-Value.x (omega arith) e q,
-    )
+pub returns-in_err-decimal-4 : goal.returns-in_err-decimal-4
+returns-in_err-decimal-4 c =
+    let n : c.from_residual-in_err-decimal-4.result ≡ None = search rules in
+    rw n (nine_taken c.args.s.now
+    (decimal_taken (false ∷ false ∷ true ∷ true ∷ true ∷ false ∷ false ∷ false ∷ []) (fields c.args.s.now) (fields_of c.decimal.new.self.rest) c.decimal.ensures _ c.in_ok-decimal.was ∙ ap (ahead (Some _))
+    (decimal_taken (false ∷ true ∷ true ∷ true ∷ false ∷ false ∷ false ∷ []) (fields_of c.decimal.new.self.rest) (fields_of c.decimal-2.new.self.rest) c.decimal-2.ensures _ c.in_ok-decimal-2.was ∙ ap (ahead (Some _))
+    (decimal_taken (true ∷ true ∷ true ∷ false ∷ false ∷ false ∷ []) (fields_of c.decimal-2.new.self.rest) (fields_of c.decimal-3.new.self.rest) c.decimal-3.ensures _ c.in_ok-decimal-3.was ∙ ap (ahead (Some _))
+    (switch_taken (true ∷ true ∷ false ∷ false ∷ false ∷ []) (fields_of c.decimal-3.new.self.rest) (fields_of c.switch.new.self.rest) c.switch.ensures _ c.in_ok-switch.was ∙ ap (ahead (Some _))
+    (switch_taken (true ∷ false ∷ false ∷ false ∷ []) (fields_of c.switch.new.self.rest) (fields_of c.switch-2.new.self.rest) c.switch-2.ensures _ c.in_ok-switch-2.was ∙ ap (ahead (Some _))
+    (switch_taken (false ∷ false ∷ false ∷ []) (fields_of c.switch-2.new.self.rest) (fields_of c.switch-3.new.self.rest) c.switch-3.ensures _ c.in_ok-switch-3.was ∙ ap (ahead (Some _))
+    (decimal_missing (false ∷ false ∷ []) (fields_of c.switch-3.new.self.rest) (fields_of c.decimal-4.new.self.rest) c.decimal-4.ensures c.in_err-decimal-4.was))))))))
+
+pub returns-in_err-decimal-5 : goal.returns-in_err-decimal-5
+returns-in_err-decimal-5 c =
+    let n : c.from_residual-in_err-decimal-5.result ≡ None = search rules in
+    rw n (nine_taken c.args.s.now
+    (decimal_taken (false ∷ false ∷ true ∷ true ∷ true ∷ false ∷ false ∷ false ∷ []) (fields c.args.s.now) (fields_of c.decimal.new.self.rest) c.decimal.ensures _ c.in_ok-decimal.was ∙ ap (ahead (Some _))
+    (decimal_taken (false ∷ true ∷ true ∷ true ∷ false ∷ false ∷ false ∷ []) (fields_of c.decimal.new.self.rest) (fields_of c.decimal-2.new.self.rest) c.decimal-2.ensures _ c.in_ok-decimal-2.was ∙ ap (ahead (Some _))
+    (decimal_taken (true ∷ true ∷ true ∷ false ∷ false ∷ false ∷ []) (fields_of c.decimal-2.new.self.rest) (fields_of c.decimal-3.new.self.rest) c.decimal-3.ensures _ c.in_ok-decimal-3.was ∙ ap (ahead (Some _))
+    (switch_taken (true ∷ true ∷ false ∷ false ∷ false ∷ []) (fields_of c.decimal-3.new.self.rest) (fields_of c.switch.new.self.rest) c.switch.ensures _ c.in_ok-switch.was ∙ ap (ahead (Some _))
+    (switch_taken (true ∷ false ∷ false ∷ false ∷ []) (fields_of c.switch.new.self.rest) (fields_of c.switch-2.new.self.rest) c.switch-2.ensures _ c.in_ok-switch-2.was ∙ ap (ahead (Some _))
+    (switch_taken (false ∷ false ∷ false ∷ []) (fields_of c.switch-2.new.self.rest) (fields_of c.switch-3.new.self.rest) c.switch-3.ensures _ c.in_ok-switch-3.was ∙ ap (ahead (Some _))
+    (decimal_taken (false ∷ false ∷ []) (fields_of c.switch-3.new.self.rest) (fields_of c.decimal-4.new.self.rest) c.decimal-4.ensures _ c.in_ok-decimal-4.was ∙ ap (ahead (Some _))
+    (decimal_missing (false ∷ []) (fields_of c.decimal-4.new.self.rest) (fields_of c.decimal-5.new.self.rest) c.decimal-5.ensures c.in_err-decimal-5.was)))))))))
+
+pub returns-in_err-decimal-6 : goal.returns-in_err-decimal-6
+returns-in_err-decimal-6 c =
+    let n : c.from_residual-in_err-decimal-6.result ≡ None = search rules in
+    rw n (nine_taken c.args.s.now
+    (decimal_taken (false ∷ false ∷ true ∷ true ∷ true ∷ false ∷ false ∷ false ∷ []) (fields c.args.s.now) (fields_of c.decimal.new.self.rest) c.decimal.ensures _ c.in_ok-decimal.was ∙ ap (ahead (Some _))
+    (decimal_taken (false ∷ true ∷ true ∷ true ∷ false ∷ false ∷ false ∷ []) (fields_of c.decimal.new.self.rest) (fields_of c.decimal-2.new.self.rest) c.decimal-2.ensures _ c.in_ok-decimal-2.was ∙ ap (ahead (Some _))
+    (decimal_taken (true ∷ true ∷ true ∷ false ∷ false ∷ false ∷ []) (fields_of c.decimal-2.new.self.rest) (fields_of c.decimal-3.new.self.rest) c.decimal-3.ensures _ c.in_ok-decimal-3.was ∙ ap (ahead (Some _))
+    (switch_taken (true ∷ true ∷ false ∷ false ∷ false ∷ []) (fields_of c.decimal-3.new.self.rest) (fields_of c.switch.new.self.rest) c.switch.ensures _ c.in_ok-switch.was ∙ ap (ahead (Some _))
+    (switch_taken (true ∷ false ∷ false ∷ false ∷ []) (fields_of c.switch.new.self.rest) (fields_of c.switch-2.new.self.rest) c.switch-2.ensures _ c.in_ok-switch-2.was ∙ ap (ahead (Some _))
+    (switch_taken (false ∷ false ∷ false ∷ []) (fields_of c.switch-2.new.self.rest) (fields_of c.switch-3.new.self.rest) c.switch-3.ensures _ c.in_ok-switch-3.was ∙ ap (ahead (Some _))
+    (decimal_taken (false ∷ false ∷ []) (fields_of c.switch-3.new.self.rest) (fields_of c.decimal-4.new.self.rest) c.decimal-4.ensures _ c.in_ok-decimal-4.was ∙ ap (ahead (Some _))
+    (decimal_taken (false ∷ []) (fields_of c.decimal-4.new.self.rest) (fields_of c.decimal-5.new.self.rest) c.decimal-5.ensures _ c.in_ok-decimal-5.was ∙ ap (ahead (Some _))
+    (decimal_missing [] (fields_of c.decimal-5.new.self.rest) (fields_of c.decimal-6.new.self.rest) c.decimal-6.ensures c.in_err-decimal-6.was))))))))))
+
+pub returns-then-is_some : goal.returns-then-is_some
+returns-then-is_some c =
+    nine_taken c.args.s.now
+    (decimal_taken (false ∷ false ∷ true ∷ true ∷ true ∷ false ∷ false ∷ false ∷ []) (fields c.args.s.now) (fields_of c.decimal.new.self.rest) c.decimal.ensures _ c.in_ok-decimal.was ∙ ap (ahead (Some _))
+    (decimal_taken (false ∷ true ∷ true ∷ true ∷ false ∷ false ∷ false ∷ []) (fields_of c.decimal.new.self.rest) (fields_of c.decimal-2.new.self.rest) c.decimal-2.ensures _ c.in_ok-decimal-2.was ∙ ap (ahead (Some _))
+    (decimal_taken (true ∷ true ∷ true ∷ false ∷ false ∷ false ∷ []) (fields_of c.decimal-2.new.self.rest) (fields_of c.decimal-3.new.self.rest) c.decimal-3.ensures _ c.in_ok-decimal-3.was ∙ ap (ahead (Some _))
+    (switch_taken (true ∷ true ∷ false ∷ false ∷ false ∷ []) (fields_of c.decimal-3.new.self.rest) (fields_of c.switch.new.self.rest) c.switch.ensures _ c.in_ok-switch.was ∙ ap (ahead (Some _))
+    (switch_taken (true ∷ false ∷ false ∷ false ∷ []) (fields_of c.switch.new.self.rest) (fields_of c.switch-2.new.self.rest) c.switch-2.ensures _ c.in_ok-switch-2.was ∙ ap (ahead (Some _))
+    (switch_taken (false ∷ false ∷ false ∷ []) (fields_of c.switch-2.new.self.rest) (fields_of c.switch-3.new.self.rest) c.switch-3.ensures _ c.in_ok-switch-3.was ∙ ap (ahead (Some _))
+    (decimal_taken (false ∷ false ∷ []) (fields_of c.switch-3.new.self.rest) (fields_of c.decimal-4.new.self.rest) c.decimal-4.ensures _ c.in_ok-decimal-4.was ∙ ap (ahead (Some _))
+    (decimal_taken (false ∷ []) (fields_of c.decimal-4.new.self.rest) (fields_of c.decimal-5.new.self.rest) c.decimal-5.ensures _ c.in_ok-decimal-5.was ∙ ap (ahead (Some _))
+    (decimal_taken [] (fields_of c.decimal-5.new.self.rest) (fields_of c.decimal-6.new.self.rest) c.decimal-6.ensures _ c.in_ok-decimal-6.was ∙ ap (ahead (Some _))
+    (too_many _ (sym c.is_some.ensures ∙ c.if-is_some.true)))))))))))
 
 pub returns : goal.returns
-returns c = let s = c.args.s.now in
-    many_say (take c.loop-k.k c.loop-k.v) (drop c.loop-k.at s) (length-take-le c.loop-k.k c.loop-k.v (omega arith) ∙ (omega arith)) ∙ ap (λ (o : Option (List ℕ)). bind o nine_values)
-    (sym c.loop-k.invariant.3)
+returns c =
+    nine_taken c.args.s.now
+    (decimal_taken (false ∷ false ∷ true ∷ true ∷ true ∷ false ∷ false ∷ false ∷ []) (fields c.args.s.now) (fields_of c.decimal.new.self.rest) c.decimal.ensures _ c.in_ok-decimal.was ∙ ap (ahead (Some _))
+    (decimal_taken (false ∷ true ∷ true ∷ true ∷ false ∷ false ∷ false ∷ []) (fields_of c.decimal.new.self.rest) (fields_of c.decimal-2.new.self.rest) c.decimal-2.ensures _ c.in_ok-decimal-2.was ∙ ap (ahead (Some _))
+    (decimal_taken (true ∷ true ∷ true ∷ false ∷ false ∷ false ∷ []) (fields_of c.decimal-2.new.self.rest) (fields_of c.decimal-3.new.self.rest) c.decimal-3.ensures _ c.in_ok-decimal-3.was ∙ ap (ahead (Some _))
+    (switch_taken (true ∷ true ∷ false ∷ false ∷ false ∷ []) (fields_of c.decimal-3.new.self.rest) (fields_of c.switch.new.self.rest) c.switch.ensures _ c.in_ok-switch.was ∙ ap (ahead (Some _))
+    (switch_taken (true ∷ false ∷ false ∷ false ∷ []) (fields_of c.switch.new.self.rest) (fields_of c.switch-2.new.self.rest) c.switch-2.ensures _ c.in_ok-switch-2.was ∙ ap (ahead (Some _))
+    (switch_taken (false ∷ false ∷ false ∷ []) (fields_of c.switch-2.new.self.rest) (fields_of c.switch-3.new.self.rest) c.switch-3.ensures _ c.in_ok-switch-3.was ∙ ap (ahead (Some _))
+    (decimal_taken (false ∷ false ∷ []) (fields_of c.switch-3.new.self.rest) (fields_of c.decimal-4.new.self.rest) c.decimal-4.ensures _ c.in_ok-decimal-4.was ∙ ap (ahead (Some _))
+    (decimal_taken (false ∷ []) (fields_of c.decimal-4.new.self.rest) (fields_of c.decimal-5.new.self.rest) c.decimal-5.ensures _ c.in_ok-decimal-5.was ∙ ap (ahead (Some _))
+    (decimal_taken [] (fields_of c.decimal-5.new.self.rest) (fields_of c.decimal-6.new.self.rest) c.decimal-6.ensures _ c.in_ok-decimal-6.was ∙ ap (ahead (Some _))
+    (all_taken _ (sym c.is_some.ensures ∙ c.if-is_some.false)))))))))))

@@ -13,5 +13,5 @@ pub returns : goal.returns
 returns c =
     printed_as c.args.at c.args.out.now
     (answer_printed c.args.p c.args.b.answer c.args.b.channel c.args.at c.args.out.now
-    c.count-line.ensures c.count-block.ensures c.shown-s.ensures c.block_line-next.ensures)
+    c.count.ensures c.count-block.ensures c.shown.ensures c.block_line.ensures)
     (or_judged c.args.p (block_taken c.args.b.answer c.args.b.channel c.args.p) c.args.b.answer.refusal c.if-a-ne0.false)

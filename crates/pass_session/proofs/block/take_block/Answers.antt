@@ -6,16 +6,16 @@ use Rattle.pass_session.proofs.block.take_block.Goals as goal
 
 pub returns-in_default : goal.returns-in_default
 returns-in_default c =
-    block_refused c.args.line.now _ _ c.block_line-said.ensures c.args.p c.args.windows.now c.args.at c.args.out.now
+    block_refused c.args.line.now _ _ c.block_line.ensures c.args.p c.args.windows.now c.args.at c.args.out.now
     c.in_default.is c.refuse.ensures
 
 pub slice_bounds-samples-end : goal.slice_bounds-samples-end
-slice_bounds-samples-end c = said_within c.args.line.now _ _ c.block_line-said.ensures _ _ c.in-Taken.is
+slice_bounds-samples-end c = said_within c.args.line.now _ _ c.block_line.ensures _ _ c.in-Some.is
 
 pub slice_bounds-block-end : goal.slice_bounds-block-end
-slice_bounds-block-end c = sym (length-take-le _ _ (said_within c.args.line.now _ _ c.block_line-said.ensures _ _ c.in-Taken.is))
+slice_bounds-block-end c = sym (length-take-le _ _ (said_within c.args.line.now _ _ c.block_line.ensures _ _ c.in-Some.is))
 
 pub returns : goal.returns
 returns c =
-    block-answered c.args.line.now _ _ c.block_line-said.ensures c.args.p c.args.windows.now c.args.at c.args.out.now _ _
-    c.block-b.result _ _ _ c.in-Taken.is c.block-b.ensures c.take_answer.ensures
+    block-answered c.args.line.now _ _ c.block_line.ensures c.args.p c.args.windows.now c.args.at c.args.out.now _ _
+    c.block-b.result _ _ _ c.in-Some.is c.block-b.ensures c.take_answer.ensures

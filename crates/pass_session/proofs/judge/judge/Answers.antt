@@ -5,7 +5,7 @@ use Rattle.pass_session.proofs.judge.judge.Goals as goal
 pub returns-in-Names : goal.returns-in-Names
 returns-in-Names c =
     names_judged c.args.p c.args.windows.now c.args.line.now c.args.at c.args.out.now
-    c.in-Names.is c.names_line-n.ensures c.take_names.ensures
+    c.in-Names.is c.is_names.ensures c.take_names.ensures
 
 pub returns-in-Values : goal.returns-in-Values
 returns-in-Values c =
@@ -15,7 +15,7 @@ returns-in-Values c =
 pub returns-in-BlockNames : goal.returns-in-BlockNames
 returns-in-BlockNames c =
     block_names_judged c.args.p c.args.windows.now c.args.line.now c.args.at c.args.out.now
-    c.in-BlockNames.is c.block_names_line-n.ensures c.take_names-in-BlockNames.ensures
+    c.in-BlockNames.is c.is_block_names.ensures c.take_names-in-BlockNames.ensures
 
 pub returns-in-Blocks : goal.returns-in-Blocks
 returns-in-Blocks c =

@@ -13,21 +13,14 @@ loop-n-init c = (omega arith, refl, refl, refl)
 pub slice_bounds-line_length-count : goal.slice_bounds-line_length-count
 slice_bounds-line_length-count c = c.loop-n.invariant.0
 
-pub shape_of-windows-then-n-eq0 : goal.shape_of-windows-then-n-eq0
-shape_of-windows-then-n-eq0 c = c.loop-n.invariant.2
-
-pub shape_of-out-then-n-eq0 : goal.shape_of-out-then-n-eq0
-shape_of-out-then-n-eq0 c = c.loop-n.invariant.1
-
-pub returns-then-n-eq0 : goal.returns-then-n-eq0
+pub returns-in_default : goal.returns-in_default
 unfolding as_chunk_run
-returns-then-n-eq0 c =
-    run_ends c.args.s.now (record { pass = c.loop-n.pass; windows = c.loop-n.windows; used = c.loop-n.used; at = c.loop-n.to; out = c.loop-n.out }) c.line_length-n.result c.line_length-n.ensures c.if-n-eq0.true
-    ∙ c.loop-n.invariant.3
+returns-in_default c =
+    run_ends c.args.s.now (record { pass = c.loop-n.pass; windows = c.loop-n.windows; used = c.loop-n.used; at = c.loop-n.to; out = c.loop-n.out }) c.in_default.ensures ∙ c.loop-n.invariant.3
 
 pub overflow_add-end : goal.overflow_add-end
 overflow_add-end c =
-    let h = line_fits c.args.s.now (record { pass = c.loop-n.pass; windows = c.loop-n.windows; used = c.loop-n.used; at = c.loop-n.to; out = c.loop-n.out }) c.line_length-n.result c.line_length-n.ensures c.loop-n.invariant.0 in
+    let h = line_fits c.args.s.now (record { pass = c.loop-n.pass; windows = c.loop-n.windows; used = c.loop-n.used; at = c.loop-n.to; out = c.loop-n.out }) c.in-Some.n c.in-Some.ensures.1 c.loop-n.invariant.0 in
     omega (arith, c.well_formed.1.0.1)
 
 pub slice_bounds-judge-count : goal.slice_bounds-judge-count
@@ -35,30 +28,30 @@ slice_bounds-judge-count c = omega arith
 
 pub slice_bounds-judge-start : goal.slice_bounds-judge-start
 slice_bounds-judge-start c =
-    let h = line_fits c.args.s.now (record { pass = c.loop-n.pass; windows = c.loop-n.windows; used = c.loop-n.used; at = c.loop-n.to; out = c.loop-n.out }) c.line_length-n.result c.line_length-n.ensures c.loop-n.invariant.0 in
+    let h = line_fits c.args.s.now (record { pass = c.loop-n.pass; windows = c.loop-n.windows; used = c.loop-n.used; at = c.loop-n.to; out = c.loop-n.out }) c.in-Some.n c.in-Some.ensures.1 c.loop-n.invariant.0 in
     omega arith
 
 pub slice_bounds-judge-end : goal.slice_bounds-judge-end
 slice_bounds-judge-end c =
-    let h = line_fits c.args.s.now (record { pass = c.loop-n.pass; windows = c.loop-n.windows; used = c.loop-n.used; at = c.loop-n.to; out = c.loop-n.out }) c.line_length-n.result c.line_length-n.ensures c.loop-n.invariant.0 in
+    let h = line_fits c.args.s.now (record { pass = c.loop-n.pass; windows = c.loop-n.windows; used = c.loop-n.used; at = c.loop-n.to; out = c.loop-n.out }) c.in-Some.n c.in-Some.ensures.1 c.loop-n.invariant.0 in
     omega arith
 
 pub loop-n-smaller : goal.loop-n-smaller
 loop-n-smaller c =
-    let h = line_fits c.args.s.now (record { pass = c.loop-n.pass; windows = c.loop-n.windows; used = c.loop-n.used; at = c.loop-n.to; out = c.loop-n.out }) c.line_length-n.result c.line_length-n.ensures c.loop-n.invariant.0 in
-    let n = c.if-n-eq0.false in
+    let h = line_fits c.args.s.now (record { pass = c.loop-n.pass; windows = c.loop-n.windows; used = c.loop-n.used; at = c.loop-n.to; out = c.loop-n.out }) c.in-Some.n c.in-Some.ensures.1 c.loop-n.invariant.0 in
+    let n = c.in-Some.ensures.0 in
     omega arith
 
 pub loop-n-preserved : goal.loop-n-preserved
 unfolding past as_printed run_has_room
 loop-n-preserved c =
-    let e = c.line_length-n.ensures in
-    let h = line_fits c.args.s.now (record { pass = c.loop-n.pass; windows = c.loop-n.windows; used = c.loop-n.used; at = c.loop-n.to; out = c.loop-n.out }) c.line_length-n.result e c.loop-n.invariant.0 in
+    let e = c.in-Some.ensures.1 in
+    let h = line_fits c.args.s.now (record { pass = c.loop-n.pass; windows = c.loop-n.windows; used = c.loop-n.used; at = c.loop-n.to; out = c.loop-n.out }) c.in-Some.n e c.loop-n.invariant.0 in
     let ks = c.judge-j.auto in (
       h,
       ks.out ∙ c.loop-n.invariant.1,
       ks.windows ∙ c.loop-n.invariant.2,
-      run_goes_on c.args.s.now (record { pass = c.loop-n.pass; windows = c.loop-n.windows; used = c.loop-n.used; at = c.loop-n.to; out = c.loop-n.out }) c.line_length-n.result e c.if-n-eq0.false (sym c.has_room.ensures ∙ c.loop-n-test.true) c.loop-n.invariant.0
+      run_goes_on c.args.s.now (record { pass = c.loop-n.pass; windows = c.loop-n.windows; used = c.loop-n.used; at = c.loop-n.to; out = c.loop-n.out }) c.in-Some.n e c.in-Some.ensures.0 (sym c.has_room.ensures ∙ c.loop-n-test.true) c.loop-n.invariant.0
           c.judge-j.ensures ∙ c.loop-n.invariant.3,
     )
 

@@ -7,4 +7,4 @@ use Rattle.pass_setup.proofs.setup.carriers.Goals as goal
 
 pub returns : goal.returns
 unfolding carriers_of whole of_bits
-returns c = λ i. record { nominal = c.u64_to_f64-nominal.ensures i; target = c.u64_to_f64-target.ensures i; target2 = float.zero; frequency2 = float.zero }
+returns c = λ i. record { nominal = c.u64_to_f64.ensures i; target = c.u64_to_f64-2.ensures i; target2 = float.zero; frequency2 = float.zero }

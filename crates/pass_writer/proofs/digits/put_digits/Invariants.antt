@@ -7,9 +7,9 @@ use Rattle.pass_writer.specs.Code.Buffers.{laid}
 use Rattle.pass_writer.proofs.digits.put_digits.Given as goal
 
 abbrev pub invariant-loop-i : goal.invariant-loop-i
-invariant-loop-i l =
-    (l.i ≤ l.count) × (l.at + l.count ≤ length l.initial.out) × (0 < l.base) × (l.base ≤ 16) × (length l.out ≡ length l.initial.out)
-    × (laid l.at (digits l.base l.i l.left) l.out ≡ laid l.at (digits l.base l.count l.n) l.initial.out)
-
-abbrev pub decreases-loop-i : goal.decreases-loop-i
-decreases-loop-i l = l.i
+invariant-loop-i l = record {
+  room : l.at + l.count ≤ length l.initial.out;
+  base : (0 < l.base) × (l.base ≤ 16);
+  length_is : length l.out ≡ length l.initial.out;
+  laid_is : laid l.at (digits l.base l.i l.left) l.out ≡ laid l.at (digits l.base l.count l.n) l.initial.out;
+}

@@ -1,12 +1,12 @@
 -- `pass_writer::lines::put_block` meets its contract. Seven fields, one behind the other.
 use mathlib.Core.Bool.{cond}
-use mathlib.Core.Path.{ap}
+use mathlib.Core.Path.{◌∙◌, ap}
 use mathlib.Core.List.{◌++◌, ◌∷◌, []}
 use Prim.Native.Nat.{ℕ}
 use native.Mathlib.Omega.{arith}
 use Rattle.pass_writer.specs.Digits.{decimal_text, float_text}
 use Rattle.pass_writer.specs.Lines.{block_text}
-use Rattle.pass_writer.proofs.LaidLaws.{then_wrote, wrote_as, joined_seven}
+use Rattle.pass_writer.proofs.LaidLaws.{then_wrote, wrote_as, joined_seven, bit_is}
 use Rattle.pass_writer.proofs.lines.put_block.Goals as goal
 
 pub returns : goal.returns
@@ -23,7 +23,7 @@ returns c =
     let f3 = c.put_float.ensures in
     let l1 = n1.upper_bound in let l2 = n2.upper_bound in let l3 = n3.upper_bound in let l4 = n4.upper_bound in let l5 = f1.upper_bound in let l6 = f2.upper_bound in let l7 = f3.upper_bound in
     let w2 = wrote_as (decimal_text (cond a.locked 1 0) ++ (32 ∷ []))
-    (ap (λ (n : ℕ). decimal_text n ++ (32 ∷ [])) c.bit_of-locked.ensures)
+    (ap (λ (n : ℕ). decimal_text n ++ (32 ∷ [])) (c.from.ensures ∙ bit_is a.locked))
     n2.wrote in
     let r2 = then_wrote (decimal_text (cond a.locked 1 0) ++ (32 ∷ [])) n1.wrote w2 (omega arith) in
     let r3 = then_wrote (decimal_text a.tracker ++ (32 ∷ [])) r2 n3.wrote (omega arith) in

@@ -9,4 +9,4 @@ use Rattle.tracker.proofs.correction.enter.Goals as goal
 pub returns : goal.returns
 returns c =
     let a = c.args in
-    ap (λ (e : PowerSums × List Float). (with_power a.t e.0, e.1)) c.push-s.ensures
+    ap (λ (e : PowerSums × List Float). (with_power a.t e.0, e.1)) c.push.ensures

@@ -5,11 +5,11 @@ use Rattle.tracker_covariance.proofs.Phases.{phase_small}
 use Rattle.tracker.specs.Correction.{prior_of}
 use Rattle.tracker.proofs.correction.prior_of.Goals as goal
 
-pub offset_bounds-x-i : goal.offset_bounds-x-i
-offset_bounds-x-i c = record { fits = omega (arith, phase_small c.args.band, c.phase_index-i.ensures) }
+pub offset_bounds-t-i : goal.offset_bounds-t-i
+offset_bounds-t-i c = record { fits = omega (arith, phase_small c.args.band, c.phase_index-i.ensures) }
 
-pub bounds-x-i : goal.bounds-x-i
-bounds-x-i c = omega (arith, phase_small c.args.band, c.phase_index-i.ensures)
+pub bounds-t-i : goal.bounds-t-i
+bounds-t-i c = omega (arith, phase_small c.args.band, c.phase_index-i.ensures)
 
 pub returns : goal.returns
 returns c = ap (prior_of c.args.t) c.phase_index-i.ensures

@@ -17,4 +17,4 @@ pub bounds-y-i : goal.bounds-y-i
 bounds-y-i c = omega (arith, phase_small c.args.band, c.phase_index-i.ensures)
 
 pub returns : goal.returns
-returns c = phase_is _ _ _ _ _ c.phase_index-i.ensures c.wrap-v.ensures
+returns c = phase_is _ _ _ _ _ c.phase_index-i.ensures c.wrap.ensures

@@ -10,10 +10,10 @@ pub returns-then-lock_metric-2 : goal.returns-then-lock_metric-2
 unfolding unlocks
 returns-then-lock_metric-2 c = rw (c.if-dual_lock.true, c.if-lock_metric.false, c.if-lock_metric-2.true)
 
-pub returns-then-dual_lock : goal.returns-then-dual_lock
+pub returns-else-lock_metric-2 : goal.returns-else-lock_metric-2
 unfolding unlocks
-returns-then-dual_lock c = rw (c.if-dual_lock.true, c.if-lock_metric.false, c.if-lock_metric-2.false)
+returns-else-lock_metric-2 c = rw (c.if-dual_lock.true, c.if-lock_metric.false, c.if-lock_metric-2.false)
 
-pub returns : goal.returns
+pub returns-else-dual_lock : goal.returns-else-dual_lock
 unfolding unlocks
-returns c = rw c.if-dual_lock.false
+returns-else-dual_lock c = rw c.if-dual_lock.false

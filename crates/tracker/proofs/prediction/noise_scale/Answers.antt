@@ -6,6 +6,6 @@ pub returns-then-adaptive : goal.returns-then-adaptive
 unfolding noise_scale
 returns-then-adaptive c = rw (c.if-adaptive.true, c.clamp.ensures)
 
-pub returns : goal.returns
+pub returns-else-adaptive : goal.returns-else-adaptive
 unfolding noise_scale
-returns c = rw c.if-adaptive.false
+returns-else-adaptive c = rw c.if-adaptive.false

@@ -5,13 +5,13 @@ use Rattle.tracker.proofs.second.update_by_second.Goals as goal
 pub returns-in_default : goal.returns-in_default
 returns-in_default c =
     let a = c.args in
-    let d = c.correct_by_second-d in
-    second_is a.t a.p a.norm_re a.pr a.re a.im d.result _ d.ensures
+    let d = c.correct_by_second-answer in
+    second_is a.h.ekf a.h.p a.norm_re a.pr a.re a.im d.result _ d.ensures
     (after_lost a.norm_re a.pr d.result c.in_default.is)
 
 pub returns : goal.returns
 returns c =
     let a = c.args in
-    let d = c.correct_by_second-d in
-    second_is a.t a.p a.norm_re a.pr a.re a.im d.result _ d.ensures
-    (after_kept a.norm_re a.pr _ _ d.result c.settle-x.result c.in-Kept.is c.settle-x.ensures)
+    let d = c.correct_by_second-answer in
+    second_is a.h.ekf a.h.p a.norm_re a.pr a.re a.im d.result _ d.ensures
+    (after_kept a.norm_re a.pr _ _ d.result c.settle-ekf.result c.in-Kept.is c.settle-ekf.ensures)

@@ -9,7 +9,7 @@ use Rattle.tracker_covariance.specs.Correction.{innovation_variance, corrected}
 use Rattle.tracker_block_diagonal.specs.declared.half.Gain.{Gain}
 use Rattle.tracker_block_diagonal.specs.Code.Joined.{joined, gains}
 use Rattle.tracker_block_diagonal.specs.Code.HalfCorrection.{half_gain, half_floored, half_left, half_right, shifted}
-use Rattle.tracker_block_diagonal.proofs.Finite.{both_true}
+use Rattle.tracker_block_diagonal.proofs.Finite.{both_true, same_finite}
 use Rattle.tracker_block_diagonal.proofs.Zeros.{absolute_above}
 use Rattle.tracker_block_diagonal.proofs.Blocks.{blocks, alike}
 use Rattle.tracker_block_diagonal.proofs.CorrectedHalves.{Fits, floored_fits, all_finite, gain_taken, gain_apart, corrected_blocks}
@@ -33,9 +33,9 @@ fitting c =
       cc = t _ g.1.1.1.1.1.1.1.1.0.1;
     }
 
-pub returns : goal.returns
+pub returns-then-apart : goal.returns-then-apart
 unfolding innovation_variance joined
-returns c h =
+returns-then-apart c =
     let a = c.args.h.first in
     let d = c.args.h.second in
     let noise = c.args.noise in
@@ -50,18 +50,19 @@ returns c h =
     let ef : c.floor_half-f.result ≡ f = c.floor_half-f.ensures in
     let eg : c.floor_half-g.result ≡ g = c.floor_half-g.ensures in
     let et : c.joseph_left-t.result ≡ t = c.joseph_left-t.ensures ∙ (λ j. half_left (ef j) (ek j)) in
-    let ea : c.joseph_right-a.result ≡ half_right t k noise = c.joseph_right-a.ensures ∙ (λ j. half_right (et j) (ek j) noise) in
-    let eb : c.shift-b.result ≡ shifted g (times zero noise) = c.shift-b.ensures ∙ (λ j. shifted (eg j) (times zero noise)) in
-    let tests = both_true (le least s) c.is_finite-finite.result h in
+    let ea : c.joseph_right.result ≡ half_right t k noise = c.joseph_right.ensures ∙ (λ j. half_right (et j) (ek j) noise) in
+    let eb : c.shift.result ≡ shifted g (times zero noise) = c.shift.ensures ∙ (λ j. shifted (eg j) (times zero noise)) in
+    let tests = both_true (le least s) c.is_finite-finite.result c.if-apart.true in
     let up = gain_taken s tests.0 in
     let all =
     all_finite a.pp f k noise
     (sym (λ j. finite (plus (plus (plus (plus (plus s (ef j).pf) (ef j).pc) (et j).pp) (et j).fp) (et j).cp))
-    ∙ sym c.is_finite-finite.ensures
+    ∙ sym (same_finite _)
+    ∙ sym c.is_finite-finite.ensures.value
     ∙ tests.1) in (
       ap (le least) (absolute_above s up) ∙ tests.0,
       ap gains ek ∙ gain_apart a d s up,
       (λ j. blocks (ea j) o o (eb j))
-          ∙ sym (corrected_blocks a d k noise all.gain all.row all.column (floored_fits d (fitting (goal.at.returns c).Start)) all.measured)
+          ∙ sym (corrected_blocks a d k noise all.gain all.row all.column (floored_fits d (fitting (goal.at.returns-then-apart c).Start)) all.measured)
           ∙ ap (λ (k : Gain). corrected (blocks a o o d) 0 (gains k) noise) (sym ek),
     )

@@ -5,10 +5,10 @@ use Rattle.tracker_block_diagonal.proofs.PartedHalves.{parted}
 use borrow.Author.Rules.{rules}
 use Rattle.tracker_block_diagonal.proofs.joining.part.Goals as goal
 
-pub returns : goal.returns
+pub returns-then-r0-r1 : goal.returns-then-r0-r1
 unfolding joined
-returns c h =
-    let b5 = both_true _ c.none_shared-r5.result h in
+returns-then-r0-r1 c =
+    let b5 = both_true _ c.none_shared-r5.result c.if-r0-r1.true in
     let b4 = both_true _ c.none_shared-r4.result b5.0 in
     let b3 = both_true _ c.none_shared-r3.result b4.0 in
     let b2 = both_true _ c.none_shared-r2.result b3.0 in

@@ -13,9 +13,8 @@ returns c =
     let a = c.args in
     let dt = a.dt in
     let n = a.n in
-    let first : c.half_mean-c.result ≡ half_mean n (moved_columns dt (moved_rows dt a.h.first)) =
-    c.half_mean-c.ensures
-    ∙ ap (half_mean n) (c.move_columns-b.ensures ∙ ap (moved_columns dt) c.move_rows-a.ensures) in
-    let second : c.half_mean-f.result ≡ half_mean n (moved_columns dt (moved_rows dt a.h.second)) =
-    c.half_mean-f.ensures ∙ ap (half_mean n) (c.move_columns-e.ensures ∙ ap (moved_columns dt) c.move_rows-d.ensures) in
+    let first : c.half_mean.result ≡ half_mean n (moved_columns dt (moved_rows dt a.h.first)) =
+    c.half_mean.ensures ∙ ap (half_mean n) (c.move_columns.ensures ∙ ap (moved_columns dt) c.move_rows.ensures) in
+    let second : c.half_mean-2.result ≡ half_mean n (moved_columns dt (moved_rows dt a.h.second)) =
+    c.half_mean-2.ensures ∙ ap (half_mean n) (c.move_columns-2.ensures ∙ ap (moved_columns dt) c.move_rows-2.ensures) in
     (λ j. blocks (first j) (alike zero) (alike zero) (second j)) ∙ sym (predicted_blocks dt n a.h.first a.h.second c.requires)

@@ -1,24 +1,20 @@
--- `sum` adds the 36 entries. The loop's invariant: those before place k are stored.
-use mathlib.Core.Path.{refl, sym}
-use native.Mathlib.Omega.{arith}
+-- `sum` adds the 36 entries.
+use mathlib.Core.Path.{◌≡◌, sym, ◌∙◌}
 use borrow.Author.Rules.{rules}
+use lib.ListN.{get_or}
+use lib.Ieee.{nan}
 use Rattle.ieee754.specs.Binary64.{plus}
+use Rattle.tracker_covariance.specs.Matrix.{matrix}
 use Rattle.tracker_covariance.specs.Code.Entries.{sum_at}
-use Rattle.tracker_covariance.proofs.Filling.{none, store, at_place, all_places}
+use Rattle.tracker_covariance.proofs.Filling.{made_by, place, at_place}
 use Rattle.tracker_covariance.proofs.prediction.sum.Goals as goal
 
-pub loop-k-init : goal.loop-k-init
-loop-k-init c = (search rules, none _ _ _ refl)
-
-pub loop-k-preserved : goal.loop-k-preserved
-loop-k-preserved c =
-    let l = c.loop-k in
-    let a = c.args in (
-      omega arith,
-      store 36 _ l.out l.k _ c.loop-k-test.true
-          (λ j. plus (sym (at_place a.p l.k) j) (sym (at_place a.q l.k) j))
-          l.invariant.1,
-    )
-
 pub returns : goal.returns
-returns c = all_places (sum_at c.args.p c.args.q) _ _ c.loop-k-test.false c.loop-k.invariant.1
+unfolding matrix
+returns c =
+    let a = c.args in
+    made_by _ (place (sum_at a.p a.q)) _
+    (λ i y f h.
+    let e : y ≡ plus (get_or a.p i nan) (get_or a.q i nan) = search rules in
+    (e ∙ (λ j. plus (sym (at_place a.p i) j) (sym (at_place a.q i) j)), search rules))
+    _ 36 c.from_fn.ensures.items

@@ -1,7 +1,9 @@
 -- `measure`, from what its parts ensure.
-use Rattle.tracker_measurement.specs.Measurement.{measured}
+use Rattle.std.proofs.Common.{refl}
+use Rattle.tracker_measurement.proofs.MeasuredParts.{measured_by_parts}
 use Rattle.tracker_measurement.proofs.measure.measure.Goals as goal
 
 pub returns : goal.returns
-unfolding measured
-returns c = cc
+returns c =
+    let a = c.args in
+    measured_by_parts a.prior a.re a.im _ c.receive-a.result c.detect-d.result c.in_phase.result refl c.receive-a.ensures c.detect-d.ensures c.in_phase.ensures

@@ -18,10 +18,10 @@ empty : (b : List ℕ) (zeros : List Float) {n : ℕ} → zeros ≡ no_pairs →
 unfolding window_from
 empty b zeros {n} z e h = rw (← e, ne_eqb (n % 1024) 0 h, z)
 
-pub returns-then-n-eq0 : goal.returns-then-n-eq0
+pub returns-then-at-eq0 : goal.returns-then-at-eq0
 unfolding no_pairs
-returns-then-n-eq0 c = placed c.args.b.now (replicate 2048 (of_bits binary64 0)) refl c.number-n.ensures c.float64-abs_i.ensures c.float64-q_sq.ensures c.if-n-eq0.true
+returns-then-at-eq0 c = placed c.args.b.now (replicate 2048 (of_bits binary64 0)) refl c.at.ensures c.at-then-at-eq0.ensures c.at-then-at-eq0-2.ensures c.if-at-eq0.true
 
-pub returns : goal.returns
+pub returns-else-at-eq0 : goal.returns-else-at-eq0
 unfolding no_pairs
-returns c = empty c.args.b.now (replicate 2048 (of_bits binary64 0)) refl c.number-n.ensures c.if-n-eq0.false
+returns-else-at-eq0 c = empty c.args.b.now (replicate 2048 (of_bits binary64 0)) refl c.at.ensures c.if-at-eq0.false

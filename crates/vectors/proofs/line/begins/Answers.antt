@@ -1,40 +1,23 @@
--- `vectors::line::begins` meets its contract. Assumes nothing.
-use mathlib.Core.Path.{refl, sym, ◌∙◌}
-use native.Mathlib.Omega.{arith}
-use Rattle.vectors.proofs.LineLaws.{standing_next, standing_differs, standing_missing, standing_end}
+-- `vectors::line::begins` meets its contract: one turn, a number that differs, and the end. Assumes nothing.
+use Rattle.std.proofs.Common.{sym, ◌∙◌}
+use Rattle.std.proofs.lemmas.Slice.Zip.{Zip-more, either_empty_from_Zip}
+use Rattle.vectors.proofs.LineLaws.{standing_next, standing_differs, standing_short, standing_end}
 use Rattle.vectors.proofs.line.begins.Goals as goal
 
-pub loop-k-init : goal.loop-k-init
-loop-k-init c = (refl, omega arith)
+pub returns-then-words-expected : goal.returns-then-words-expected
+returns-then-words-expected g c = sym (standing_short g.W.Word.pattern c.args.expected.now c.args.words.now c.if-words-expected.true)
 
-pub returns-then-words-k : goal.returns-then-words-k
-returns-then-words-k c = sym (standing_missing c.args.expected.now c.args.words.now c.loop-k.k 0 (omega arith) (omega arith)) ∙ c.loop-k.invariant.0
+pub returns-then-pattern-w : goal.returns-then-pattern-w
+returns-then-pattern-w g c =
+    let n = Zip-more c.loop-x.x-iterator c.next.new.self _ _ c.in-Some.is c.next.ensures.steps in
+    standing_differs g.W.Word.pattern c.in-Some.x.now c.in-Some.w.now n.0 n.1 c.pattern.ensures c.if-pattern-w.true c.loop-x.invariant.1
 
-pub offset_bounds-expected-k : goal.offset_bounds-expected-k
-offset_bounds-expected-k c = omega arith
-
-pub bounds-expected-k : goal.bounds-expected-k
-bounds-expected-k c = omega arith
-
-pub offset_bounds-words-k : goal.offset_bounds-words-k
-offset_bounds-words-k c = omega arith
-
-pub bounds-words-k : goal.bounds-words-k
-bounds-words-k c = omega arith
-
-pub returns-then-expected-k : goal.returns-then-expected-k
-returns-then-expected-k c =
-    sym (standing_differs c.args.expected.now c.args.words.now c.loop-k.k 0 (omega arith) (omega arith) c.if-expected-k.true) ∙ c.loop-k.invariant.0
-
-pub overflow_add-k : goal.overflow_add-k
-overflow_add-k c = omega arith
-
-pub loop-k-smaller : goal.loop-k-smaller
-loop-k-smaller c = omega arith
-
-pub loop-k-preserved : goal.loop-k-preserved
-loop-k-preserved c =
-    (standing_next c.args.expected.now c.args.words.now c.loop-k.k 0 (omega arith) (omega arith) c.if-expected-k.false ∙ c.loop-k.invariant.0, omega arith)
+pub loop-x-preserved : goal.loop-x-preserved
+loop-x-preserved g c =
+    let n = Zip-more c.loop-x.x-iterator c.next.new.self _ _ c.in-Some.is c.next.ensures.steps in
+    standing_next g.W.Word.pattern c.in-Some.x.now c.in-Some.w.now n.0 n.1 c.pattern.ensures c.if-pattern-w.false c.loop-x.invariant.0 c.loop-x.invariant.1
 
 pub returns : goal.returns
-returns c = sym (standing_end c.args.expected.now _ c.loop-k.k (omega arith)) ∙ c.loop-k.invariant.0
+returns g c =
+    let z = either_empty_from_Zip c.loop-x.x-iterator c.next.new.self _ c.in-None.is c.next.ensures.steps in
+    sym (standing_end g.W.Word.pattern _ _ c.loop-x.invariant.0 z) ∙ c.loop-x.invariant.1

@@ -1,3 +1,0 @@
--- What the proofs of the functions cite, on plain values.
-pub mod DiscrepancyCases
-pub mod PruningCases

@@ -1,2 +1,0 @@
--- The definitions by their cases, as the functions' proofs cite them.
-pub mod StartCases

@@ -1,2 +1,0 @@
--- Laws that the proofs of block cite.
-pub mod BlockCases

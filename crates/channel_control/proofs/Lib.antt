@@ -1,3 +1,0 @@
--- Laws that the proofs of assign and release cite.
-pub mod Assigning
-pub mod Releasing

@@ -1,2 +1,0 @@
--- Laws that the proof of open cites.
-pub mod OpeningCases

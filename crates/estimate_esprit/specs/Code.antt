@@ -1,2 +1,0 @@
--- What only private functions and proofs cite.
-pub mod Rows

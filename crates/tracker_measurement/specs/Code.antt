@@ -1,0 +1,2 @@
+-- What a fast update and proofs cite.
+pub mod Parts

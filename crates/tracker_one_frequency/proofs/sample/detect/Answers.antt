@@ -1,7 +1,0 @@
--- `detect`, from what its parts ensure.
-use Rattle.tracker_one_frequency.specs.Code.Parts.{detected}
-use Rattle.tracker_one_frequency.proofs.sample.detect.Goals as goal
-
-pub returns : goal.returns
-unfolding detected
-returns c = cc
