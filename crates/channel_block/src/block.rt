@@ -2,7 +2,7 @@
 ghost use Rattle.std.specs.Prelude.{◌≡◌, length};
 ghost use Rattle.channel_model.specs.Answers.{answer_of};
 ghost use Rattle.channel_model.specs.Blocks.{outcome, by_flag, blocked};
-ghost use Rattle.survey.specs.Flags.{flag_number};
+ghost use Rattle.survey.specs.Code.Flags.{flag_number};
 
 use channel_answer::answers::answer_of;
 use channel_answer::values::unlock;

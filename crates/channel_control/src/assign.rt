@@ -1,6 +1,7 @@
 // Assign: a channel at rest takes its carriers.
 ghost use Rattle.std.specs.Prelude.{◌≡◌};
-ghost use Rattle.channel_model.specs.Returns.{number_said, returned};
+ghost use Rattle.channel_model.specs.Returns.{returned};
+ghost use Rattle.channel_model.specs.Code.Checks.{number_said};
 ghost use Rattle.channel_model.specs.Assigning.{good_carrier, good_carriers, assign_refusal, with_carriers, assigned};
 
 use channel_model::refusal::Refusal;

@@ -1,2 +1,3 @@
 -- What only proofs and private functions cite.
 pub mod SignalStep
+pub mod Checks

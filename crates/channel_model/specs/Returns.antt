@@ -20,11 +20,6 @@ refusal_number Second = 10
 refusal_number Component = 11
 refusal_number Windows = 12
 
--- the number that a call's outcome has: 0 where it is accepted
-abbrev pub number_said : {T : Type 0} → Result T Refusal → ℕ
-number_said (Ok x) = 0
-number_said (Err r) = refusal_number r
-
 -- "refusal number (0 if accepted)", and the channel
 pub record Returned : Type 0 where
   pub refusal : ℕ

@@ -2,7 +2,8 @@
 #![tactic(auto)]
 
 ghost use Rattle.std.specs.Prelude.{◌≡◌};
-ghost use Rattle.channel_model.specs.Returns.{number_said, returned};
+ghost use Rattle.channel_model.specs.Returns.{returned};
+ghost use Rattle.channel_model.specs.Code.Checks.{number_said};
 ghost use Rattle.channel_model.specs.Opening.{bad_rate, bad_ratio, open_refusal, modulation_of, decimated_rate, fade_steps, new_tracker, new_setup, resting_bank, no_carriers, new_channel, refused_settings, opened};
 
 use bank_model::state::EkfTrackingBank;

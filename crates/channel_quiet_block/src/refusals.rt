@@ -1,8 +1,8 @@
 // The refusals of a block, 7 to 12: one function for each test, then the first that holds.
 ghost use Rattle.std.specs.Prelude.{◌≡◌, cond, not, ◌&&◌, ◌||◌, ltb, eqb, IfOk};
 ghost use Rattle.channel_samples.specs.Limits.{all_in_range};
-ghost use Rattle.survey.specs.Flags.{flag_number};
-ghost use Rattle.channel_model.specs.Returns.{number_said};
+ghost use Rattle.survey.specs.Code.Flags.{flag_number};
+ghost use Rattle.channel_model.specs.Code.Checks.{number_said};
 ghost use Rattle.channel_model.specs.Refusals.{bad_length, block_refusal};
 
 use channel_model::refusal::Refusal;

@@ -13,10 +13,12 @@ use Rattle.ieee754.specs.Binary64 as float
 use Rattle.sums.specs.declared.complex.Complex.{Complex}
 use Rattle.sums.specs.Ascending.{sum_from}
 use Rattle.sums.specs.Complex.{Cx, zero_c, add_c, mul_c, div_c, conj}
-use Rattle.sums.specs.Interleaved.{at, number, parts}
+use Rattle.sums.specs.Interleaved.{at}
+use Rattle.sums.specs.Code.Numbers.{number, parts}
 use Rattle.sums.proofs.Adding.{sum_next}
 use Rattle.sums.proofs.Tables.{table_same}
-use Rattle.estimate_correlation.specs.Correlation.{lag_sum, matrix, correlation_matrix}
+use Rattle.estimate_correlation.specs.Correlation.{lag_sum, correlation_matrix}
+use Rattle.estimate_correlation.specs.Code.Matrices.{matrix}
 use Rattle.estimate_correlation.specs.Code.RunningSums.{Latest, UpperSums, row_of, turned, mirrored, lag_product}
 use Rattle.sequences.proofs.Choices.{cond_yes, cond_no}
 use Rattle.estimate_correlation.proofs.MirrorLaw.{lag_mirrored}

@@ -7,7 +7,8 @@ use native.Mathlib.Omega.{arith}
 use lib.Ieee.{Float}
 use Rattle.sums.specs.declared.complex.Complex.{Complex}
 use Rattle.sums.specs.Complex.{Cx}
-use Rattle.sums.specs.Interleaved.{at, number}
+use Rattle.sums.specs.Interleaved.{at}
+use Rattle.sums.specs.Code.Numbers.{number}
 use Rattle.estimate_correlation.specs.Code.RunningSums.{Latest}
 
 pub latest_next : (xs : List Float) (n : ℕ) (w v : List Complex) {s : Cx} → Latest xs n w → s ≡ at xs n → number v 0 ≡ s

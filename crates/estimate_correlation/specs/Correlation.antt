@@ -1,12 +1,11 @@
 -- Module 4, its first half: the correlation matrix of `estimate_frequency_esprit`, with m = 10. Samples and the matrix stand re, im, re, im,
 -- ... Every operation is one of binary64 (which holds every binary32 sample), and sums go by ascending index. Definitions only.
-use Rattle.std.specs.Prelude.{List, [], Bool, true, false, ℕ, ◌+◌, ◌-◌, ◌/◌, ◌%◌, length, get_or, pos, Float}
+use Rattle.std.specs.Prelude.{List, Bool, true, false, ℕ, ◌+◌, ◌-◌, ◌/◌, ◌%◌, length, pos, Float}
 use Rattle.std.specs.Float.{binary32, binary64}
 use Rattle.std.specs.Float.Ieee.{of_int}
 use Rattle.sums.specs.Ascending.{sum_from}
-use Rattle.sums.specs.declared.complex.Complex.{Complex}
 use Rattle.sums.specs.Complex.{Cx, zero_c, add_c, mul_c, div_c, conj}
-use Rattle.sums.specs.Interleaved.{at, table, number}
+use Rattle.sums.specs.Interleaved.{at, table}
 
 -- ---- the samples: themselves, or for BPSK their squares, in binary32
 
@@ -24,7 +23,3 @@ lag_sum xs l i j = sum_from (add_c binary64) (zero_c binary64) (λ k. mul_c bina
 -- row by row
 unfoldable pub correlation_matrix : List Float → ℕ → List Float
 correlation_matrix xs l = table 100 (λ p. div_c binary64 (lag_sum xs l (p / 10) (p % 10)) (of_int binary64 (pos l)))
-
--- a matrix of the program, ten rows of ten, as such a list
-abbrev pub matrix : List (List Complex) → List Float
-matrix rows = table 100 (λ p. number (get_or rows (p / 10) []) (p % 10))

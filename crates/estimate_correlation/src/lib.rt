@@ -6,8 +6,9 @@
 ghost use Rattle.std.specs.Prelude.{◌≡◌, ℕ, ◌+◌, ◌-◌, ◌*◌, ◌<◌, ◌≤◌, length, Bool, true, false};
 ghost use Rattle.std.specs.Float.{binary64};
 ghost use Rattle.sums.specs.Complex.{add_c, mul_c, div_c, conj};
-ghost use Rattle.sums.specs.Interleaved.{parts, number};
-ghost use Rattle.estimate_correlation.specs.Correlation.{prepared, correlation_matrix, matrix};
+ghost use Rattle.sums.specs.Code.Numbers.{parts, number};
+ghost use Rattle.estimate_correlation.specs.Correlation.{prepared, correlation_matrix};
+ghost use Rattle.estimate_correlation.specs.Code.Matrices.{matrix};
 ghost use Rattle.estimate_correlation.specs.Code.RunningSums.{sample_of, row_of, Latest, UpperSums, turned, mirrored};
 
 use std::array;

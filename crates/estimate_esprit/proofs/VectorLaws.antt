@@ -7,11 +7,13 @@ use Rattle.ieee754.specs.SquareRoot.{sqrt}
 use Rattle.sums.specs.declared.complex.Complex.{Complex}
 use Rattle.sums.specs.Ascending.{sum_from, sum_to}
 use Rattle.sums.specs.Complex.{Cx, zero_c, add_c, mul_c, div_c, conj, norm_sqr}
-use Rattle.sums.specs.Interleaved.{at, parts, number}
+use Rattle.sums.specs.Interleaved.{at}
+use Rattle.sums.specs.Code.Numbers.{parts, number}
 use Rattle.sums.proofs.Adding.{sum_same}
 use Rattle.sums.proofs.Tables.{at_table, table_same}
-use Rattle.estimate_correlation.specs.Correlation.{matrix}
-use Rattle.estimate_esprit.specs.Esprit.{vector, matrix_times, divided_by, ones, norm, lag_one_product, energy}
+use Rattle.estimate_correlation.specs.Code.Matrices.{matrix}
+use Rattle.estimate_esprit.specs.Esprit.{matrix_times, divided_by, ones, norm, lag_one_product, energy}
+use Rattle.estimate_esprit.specs.Code.Vectors.{vector}
 
 pub at_vector : (zs : List Complex) (i : ℕ) → i < 10 → at (vector zs) i ≡ number zs i
 at_vector zs i h = at_table 10 (number zs) i h

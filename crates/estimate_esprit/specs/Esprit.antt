@@ -9,14 +9,9 @@ use Rattle.ieee754.specs.SquareRoot.{sqrt}
 use Rattle.ieee754.specs.Order.{clamped}
 use Rattle.estimate_correlation.specs.Correlation.{correlation_matrix}
 use Rattle.elementary_arctangent.specs.Steps.{atan2_of}
-use Rattle.sums.specs.declared.complex.Complex.{Complex}
 use Rattle.sums.specs.Ascending.{sum_from, sum_to}
 use Rattle.sums.specs.Complex.{Cx, zero_c, add_c, mul_c, div_c, conj, norm_sqr}
-use Rattle.sums.specs.Interleaved.{at, number, table}
-
--- a vector of the program, ten numbers, as such a list
-abbrev pub vector : List Complex → List Float
-vector zs = table 10 (number zs)
+use Rattle.sums.specs.Interleaved.{at, table}
 
 -- ---- the strongest vector of the correlation matrix, by power iteration; the product's sums and the norm's start at their first term
 

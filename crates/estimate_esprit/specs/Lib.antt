@@ -1,2 +1,3 @@
 -- Module 4 of the scope, its second half.
 pub mod Esprit
+pub mod Code

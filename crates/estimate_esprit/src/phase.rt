@@ -1,7 +1,8 @@
 // The frequency by the phase that a vector gains from each of its numbers to the next.
 ghost use Rattle.std.specs.Prelude.{◌≡◌};
-ghost use Rattle.sums.specs.Interleaved.{parts};
-ghost use Rattle.estimate_esprit.specs.Esprit.{vector, lag_one_product, energy, frequency};
+ghost use Rattle.sums.specs.Code.Numbers.{parts};
+ghost use Rattle.estimate_esprit.specs.Esprit.{lag_one_product, energy, frequency};
+ghost use Rattle.estimate_esprit.specs.Code.Vectors.{vector};
 
 use sums::complex::Complex;
 

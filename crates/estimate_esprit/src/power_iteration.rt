@@ -3,9 +3,10 @@ ghost use Rattle.std.specs.Prelude.{◌≡◌};
 ghost use Rattle.std.specs.Float.{binary64};
 ghost use Rattle.sums.specs.Ascending.{sum_to};
 ghost use Rattle.sums.specs.Complex.{add_c, mul_c};
-ghost use Rattle.sums.specs.Interleaved.{parts, number};
-ghost use Rattle.estimate_correlation.specs.Correlation.{matrix};
-ghost use Rattle.estimate_esprit.specs.Esprit.{vector, matrix_times, norm, divided_by, power_iteration, ones};
+ghost use Rattle.sums.specs.Code.Numbers.{parts, number};
+ghost use Rattle.estimate_correlation.specs.Code.Matrices.{matrix};
+ghost use Rattle.estimate_esprit.specs.Esprit.{matrix_times, norm, divided_by, power_iteration, ones};
+ghost use Rattle.estimate_esprit.specs.Code.Vectors.{vector};
 
 use std::array;
 use sums::complex::Complex;

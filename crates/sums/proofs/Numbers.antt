@@ -13,7 +13,8 @@ use lib.Ieee.{Float, nan}
 use Rattle.std.specs.Array.{IsFromFnResultFrom}
 use Rattle.std.specs.Simd.{first_chunks}
 use Rattle.sums.specs.declared.complex.Complex.{Complex}
-use Rattle.sums.specs.Interleaved.{at, parts, number}
+use Rattle.sums.specs.Interleaved.{at}
+use Rattle.sums.specs.Code.Numbers.{parts, number}
 
 -- ---- a write
 

@@ -1,7 +1,6 @@
 -- Lists that hold complex numbers as re, im, re, im, ... Definitions only.
 use Rattle.std.specs.Prelude.{List, [], ◌∷◌, ◌++◌, ℕ, zero, suc, ◌+◌, ◌*◌, get_or, Float}
 use Rattle.std.specs.Float.{nan}
-use Rattle.sums.specs.declared.complex.Complex.{Complex}
 use Rattle.sums.specs.Complex.{Cx}
 
 -- number p of a list, counted from 0
@@ -12,11 +11,3 @@ at xs p = (get_or xs (2 * p) nan, get_or xs (2 * p + 1) nan)
 unfoldable pub table : ℕ → (ℕ → Cx) → List Float
 table zero f = []
 table (suc n) f = table n f ++ ((f n).0 ∷ (f n).1 ∷ [])
-
--- the two parts of a number of the program
-abbrev pub parts : Complex → Cx
-parts z = (z.re, z.im)
-
--- number i of a list of them, counted from 0
-abbrev pub number : List Complex → ℕ → Cx
-number zs i = parts (get_or zs i (record { re = nan; im = nan }))

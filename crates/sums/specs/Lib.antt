@@ -2,3 +2,4 @@
 pub mod Ascending
 pub mod Complex
 pub mod Interleaved
+pub mod Code

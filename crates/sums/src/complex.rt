@@ -2,7 +2,7 @@
 ghost use Rattle.std.specs.Prelude.{◌≡◌};
 ghost use Rattle.std.specs.Float.{binary64};
 ghost use Rattle.sums.specs.Complex.{add_c, mul_c, div_c, conj, norm_sqr};
-ghost use Rattle.sums.specs.Interleaved.{parts};
+ghost use Rattle.sums.specs.Code.Numbers.{parts};
 
 use std::ops::{Add, Div, Mul};
 

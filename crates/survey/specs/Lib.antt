@@ -1,2 +1,2 @@
 pub mod Survey
-pub mod Flags
+pub mod Code

@@ -1,5 +1,5 @@
 // What a raw block holds, by the numbers of the scope.
-ghost use Rattle.survey.specs.Flags.{Names};
+ghost use Rattle.survey.specs.Code.Flags.{Names};
 
 #[derive(Clone, Copy, Debug, PartialEq, Eq)]
 pub enum Flag {

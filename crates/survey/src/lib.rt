@@ -6,7 +6,7 @@ pub mod flag;
 ghost use Rattle.std.specs.Prelude.{◌≡◌};
 ghost use Rattle.sequences.specs.Pairs.{pairs};
 ghost use Rattle.survey.specs.Survey.{survey_of};
-ghost use Rattle.survey.specs.Flags.{flag_number};
+ghost use Rattle.survey.specs.Code.Flags.{flag_number};
 
 use crate::flag::Flag;
 

@@ -1,5 +1,5 @@
 -- The sums over the window and their ratio (the scope, module 3; the source's `pr_sum_abs_i`, `pr_sum_q_sq` and `pr`). Definitions only.
-use Rattle.std.specs.Prelude.{Bool, true, false, cond, Option, Some, None, List, Float}
+use Rattle.std.specs.Prelude.{Bool, cond, List, Float}
 use Rattle.std.specs.Float.{binary64}
 use Rattle.std.specs.Float.Ieee.{add, sub, mul, div, lt}
 use Rattle.ieee754.specs.Binary64.{zero, largest, ten_to_minus12}
@@ -13,11 +13,6 @@ not_negative x = cond (lt x zero) zero x
 -- plus the new number first, then minus the old one, if there is one
 unfoldable pub moved_sum : Bool → Float → Float → Float → Float
 moved_sum f sum new old = not_negative (cond f (sub binary64 (add binary64 sum new) old) (add binary64 sum new))
-
--- the same, by the old number itself
-abbrev pub moved_by : Float → Float → Option Float → Float
-moved_by sum new (Some old) = moved_sum true sum new old
-moved_by sum new None = moved_sum false sum new zero
 
 -- the count and the sums after one more pair, and the memory
 unfoldable pub pushed : PowerSums → List Float → Float → Float → PowerSums × List Float

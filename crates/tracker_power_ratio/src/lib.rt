@@ -3,7 +3,8 @@
 
 ghost use Rattle.std.specs.Prelude.{◌≡◌, length};
 ghost use Rattle.tracker_power_ratio.specs.Ring.{later};
-ghost use Rattle.tracker_power_ratio.specs.PowerRatio.{not_negative, moved_by, pushed, ratio};
+ghost use Rattle.tracker_power_ratio.specs.PowerRatio.{not_negative, pushed, ratio};
+ghost use Rattle.tracker_power_ratio.specs.Code.Leaving.{moved_by};
 
 // The pairs pushed since the last reset, up to 2,047 and then from 1,024 on again; and the sums over the latest 1,024 of them.
 #[repr(C)]

@@ -4,7 +4,7 @@ use native.Mathlib.Decide.{ℕ_discrete}
 use Rattle.std.specs.Float.{binary64}
 use Rattle.sums.specs.declared.complex.Complex.{Complex}
 use Rattle.sums.specs.Complex.{add_c, mul_c, conj}
-use Rattle.sums.specs.Interleaved.{number}
+use Rattle.sums.specs.Code.Numbers.{number}
 use Rattle.estimate_correlation.proofs.add_place.Goals as goal
 
 pub loop-i-preserved : goal.loop-i-preserved

@@ -3,7 +3,7 @@ use Rattle.std.proofs.Common.{ap, ◌∙◌, arith, length-set}
 use native.Mathlib.Decide.{ℕ_discrete}
 use Rattle.std.specs.Float.{binary64}
 use Rattle.sums.specs.Complex.{Cx, add_c, mul_c, conj}
-use Rattle.sums.specs.Interleaved.{number}
+use Rattle.sums.specs.Code.Numbers.{number}
 use Rattle.sums.proofs.Numbers.{number_written, number_other}
 use Rattle.estimate_correlation.proofs.add_to_row.Goals as goal
 

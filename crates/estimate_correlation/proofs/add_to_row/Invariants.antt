@@ -2,7 +2,7 @@
 use Rattle.std.proofs.Common.{◌≡◌, ℕ, ◌<◌, ◌≤◌, length}
 use Rattle.std.specs.Float.{binary64}
 use Rattle.sums.specs.Complex.{add_c, mul_c, conj}
-use Rattle.sums.specs.Interleaved.{number}
+use Rattle.sums.specs.Code.Numbers.{number}
 use Rattle.estimate_correlation.proofs.add_to_row.Given as goal
 
 abbrev pub invariant-loop-j : goal.invariant-loop-j

@@ -4,7 +4,7 @@ use native.Mathlib.Decide.{ℕ_discrete}
 use Rattle.std.specs.Float.{binary64}
 use Rattle.sums.specs.declared.complex.Complex.{Complex}
 use Rattle.sums.specs.Complex.{Cx, div_c}
-use Rattle.sums.specs.Interleaved.{number}
+use Rattle.sums.specs.Code.Numbers.{number}
 use Rattle.estimate_correlation.proofs.UpperLaws.{mirrored_same}
 use Rattle.estimate_correlation.proofs.complete.Goals as goal
 

@@ -1,7 +1,7 @@
 -- `slid`: each call makes one lag.
 use Rattle.std.proofs.Common.{◌≡◌, ◌+◌, ◌-◌, cond, eqb, ap, ◌∙◌, ne_eqb, arith, rules}
 use lib.Ieee.{nan}
-use Rattle.sums.specs.Interleaved.{parts, number}
+use Rattle.sums.specs.Code.Numbers.{parts, number}
 use Rattle.sums.proofs.Numbers.{made}
 use Rattle.sequences.proofs.Choices.{cond_no}
 use Rattle.estimate_correlation.proofs.slid.Goals as goal

@@ -5,7 +5,8 @@ use Rattle.std.specs.Float.Ieee.{neg, eq}
 use Rattle.ieee754.specs.Binary64 as float
 use Rattle.sums.specs.declared.complex.Complex.{Complex}
 use Rattle.sums.specs.Complex.{Cx, mul_c, conj}
-use Rattle.sums.specs.Interleaved.{at, number}
+use Rattle.sums.specs.Interleaved.{at}
+use Rattle.sums.specs.Code.Numbers.{number}
 use Rattle.estimate_correlation.specs.Correlation.{lag_sum}
 
 -- a sample, or its square

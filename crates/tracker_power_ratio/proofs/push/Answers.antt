@@ -3,7 +3,8 @@ use Rattle.std.proofs.Common.{◌≡◌, ℕ, Bool, true, false, List, refl, ap,
 use Rattle.std.specs.Bool.{then_some}
 use lib.Ieee.{Float}
 use Rattle.tracker_power_ratio.specs.declared.PowerSums.{PowerSums}
-use Rattle.tracker_power_ratio.specs.PowerRatio.{moved_sum, moved_by, pushed}
+use Rattle.tracker_power_ratio.specs.PowerRatio.{moved_sum, pushed}
+use Rattle.tracker_power_ratio.specs.Code.Leaving.{moved_by}
 use Rattle.tracker_power_ratio.proofs.push.Goals as goal
 
 -- a number that leaves only a full ring

@@ -5,7 +5,7 @@ use Rattle.std.specs.Float.Ieee.{add}
 use Rattle.ieee754.specs.Binary64.{zero}
 use Rattle.sums.specs.Ascending.{sum_from}
 use Rattle.sums.specs.Complex.{norm_sqr}
-use Rattle.sums.specs.Interleaved.{number}
+use Rattle.sums.specs.Code.Numbers.{number}
 use Rattle.estimate_esprit.proofs.phase.denominator.Given as goal
 
 abbrev pub invariant-loop-z : goal.invariant-loop-z

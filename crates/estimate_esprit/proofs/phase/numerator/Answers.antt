@@ -8,7 +8,7 @@ use lib.Ieee.{nan, binary64}
 use Rattle.sums.specs.declared.complex.Complex.{Complex}
 use Rattle.sums.specs.Ascending.{sum_from}
 use Rattle.sums.specs.Complex.{Cx, add_c, mul_c, conj}
-use Rattle.sums.specs.Interleaved.{parts, number}
+use Rattle.sums.specs.Code.Numbers.{parts, number}
 use Rattle.sums.proofs.Adding.{sum_next, sum_end}
 use Rattle.estimate_esprit.proofs.VectorLaws.{number_later, lag_one_is}
 use Rattle.estimate_esprit.proofs.phase.numerator.Goals as goal

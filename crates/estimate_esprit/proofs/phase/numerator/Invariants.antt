@@ -3,7 +3,7 @@ use Rattle.std.proofs.Common.{◌≡◌, ◌+◌, length}
 use Rattle.std.specs.Float.{binary64}
 use Rattle.sums.specs.Ascending.{sum_from}
 use Rattle.sums.specs.Complex.{zero_c, add_c, mul_c, conj}
-use Rattle.sums.specs.Interleaved.{parts, number}
+use Rattle.sums.specs.Code.Numbers.{parts, number}
 use Rattle.estimate_esprit.proofs.phase.numerator.Given as goal
 
 abbrev pub invariant-loop-z : goal.invariant-loop-z

@@ -2,7 +2,7 @@
 use Rattle.std.proofs.Common.{◌≡◌, rules}
 use lib.Ieee.{nan, binary64}
 use Rattle.sums.specs.Complex.{div_c}
-use Rattle.sums.specs.Interleaved.{parts, number}
+use Rattle.sums.specs.Code.Numbers.{parts, number}
 use Rattle.sums.proofs.Numbers.{made}
 use Rattle.estimate_esprit.proofs.VectorLaws.{quotient_is}
 use Rattle.estimate_esprit.proofs.power_iteration.divided.Goals as goal

@@ -3,7 +3,7 @@ use Rattle.std.proofs.Common.{◌≡◌, [], get_or, rules}
 use lib.Ieee.{nan, binary64}
 use Rattle.sums.specs.Ascending.{sum_to}
 use Rattle.sums.specs.Complex.{add_c, mul_c}
-use Rattle.sums.specs.Interleaved.{parts, number}
+use Rattle.sums.specs.Code.Numbers.{parts, number}
 use Rattle.sums.proofs.Numbers.{made}
 use Rattle.estimate_esprit.proofs.VectorLaws.{product_is}
 use Rattle.estimate_esprit.proofs.power_iteration.matrix_times.Goals as goal

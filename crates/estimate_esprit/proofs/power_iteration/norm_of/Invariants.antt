@@ -4,7 +4,7 @@ use Rattle.std.specs.Float.{binary64}
 use Rattle.std.specs.Float.Ieee.{add}
 use Rattle.sums.specs.Ascending.{sum_to}
 use Rattle.sums.specs.Complex.{norm_sqr}
-use Rattle.sums.specs.Interleaved.{number}
+use Rattle.sums.specs.Code.Numbers.{number}
 use Rattle.estimate_esprit.proofs.power_iteration.norm_of.Given as goal
 
 abbrev pub invariant-loop-z : goal.invariant-loop-z

@@ -8,7 +8,7 @@ use lib.Ieee.{nan, binary64}
 use Rattle.sums.specs.declared.complex.Complex.{Complex}
 use Rattle.sums.specs.Ascending.{sum_from}
 use Rattle.sums.specs.Complex.{Cx, add_c, mul_c}
-use Rattle.sums.specs.Interleaved.{parts, number}
+use Rattle.sums.specs.Code.Numbers.{parts, number}
 use Rattle.sums.proofs.Adding.{sum_next, sum_end}
 use Rattle.estimate_esprit.proofs.VectorLaws.{number_later}
 use Rattle.estimate_esprit.proofs.power_iteration.row_times.Goals as goal

@@ -3,7 +3,7 @@ use Rattle.std.proofs.Common.{◌≡◌, length}
 use Rattle.std.specs.Float.{binary64}
 use Rattle.sums.specs.Ascending.{sum_to}
 use Rattle.sums.specs.Complex.{add_c, mul_c}
-use Rattle.sums.specs.Interleaved.{parts, number}
+use Rattle.sums.specs.Code.Numbers.{parts, number}
 use Rattle.estimate_esprit.proofs.power_iteration.row_times.Given as goal
 
 abbrev pub invariant-loop-r : goal.invariant-loop-r

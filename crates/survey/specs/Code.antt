@@ -1,0 +1,2 @@
+-- What only private functions and proofs cite.
+pub mod Flags
