@@ -8,7 +8,7 @@ use lib.ListN.{length, take, drop, length-append, length-drop}
 use lib.Seq.{length-take-le, drop-drop, paste}
 use lib.Ieee.{Float, nan}
 use Rattle.sequences.specs.Stretches.{stretch, replaced, within}
-use Rattle.sequences.proofs.StretchLaws.{length-replaced, stretch-replaced, stretch-apart}
+use Rattle.sequences.proofs.StretchLaws.{stretch-replaced, stretch-apart}
 use Rattle.tracker.specs.declared.state.Tracked.{Tracked}
 use Rattle.tracker_model.specs.Following.{TrackerWindow}
 use Rattle.bank_equal_trackers.specs.Code.Alike.{Level, thrice}
@@ -67,9 +67,6 @@ module _ (f : TrackerWindow → TrackerWindow) (h : Tracked) (w : List Float) {r
 
   put_2 : w2 ≡ replaced 4096 2048 w1 p
   put_2 = e2 ∙ ap (replaced 4096 2048 w1) copied_1
-
-  l2 : length w2 ≡ 8192
-  l2 = ap length put_2 ∙ length-replaced w1 4096 2048 p nan (omega arith) lp ∙ l1
 
   put_3 : w3 ≡ replaced 6144 2048 w2 p
   put_3 =

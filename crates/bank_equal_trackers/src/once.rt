@@ -5,10 +5,11 @@ ghost use Rattle.bank_equal_trackers.specs.Code.Alike.{Level, Alike, thrice};
 
 use crate::same::{Same, same_lists};
 use tracker::state::Tracked;
+use tracker_over_block::lists::Lists;
 use tracker_over_block::stretch::follow_on;
 
 // Whether stretches 2 and 3 of the window memory are the same as stretch 1.
-// Not an array of 8,192: C lends the memory as a slice, and a block refuses it by its length.
+// A slice and no array of 8,192: the scope has a channel lend `&mut w[2048*i..2048*(i+1)]` of the memory, and such a stretch is a slice.
 fn are_level(w: &[f64]) -> bool
     requires { length w.now ≡ 8192 }
     ensures { result ≡ true → Level w.now }
@@ -26,19 +27,11 @@ pub fn are_alike(t0: &Tracked, t1: &Tracked, t2: &Tracked, w: &[f64]) -> bool
 }
 
 // One tracker over all samples on stretch 1, for three that are alike and do not fade; its stretch is copied to the others.
-// Not a struct of the lists: `follow_on` takes them one by one, and would have them taken apart again.
-pub fn follow_once(
-    h: Tracked,
-    two: bool,
-    first: &[f32],
-    second: &[f32],
-    w: &mut [f64],
-    dt: f64,
-) -> Tracked
+pub fn follow_once(h: Tracked, lists: Lists, w: &mut [f64], dt: f64) -> Tracked
     requires { (length w.old ≡ 8192) × Level w.old }
-    ensures { (result, result, result, w.new) ≡ thrice (over_lists two dt false first.now second.now) (h, w.old) }
+    ensures { (result, result, result, w.new) ≡ thrice (over_lists lists.entry.two dt false lists.entry.first.now lists.entry.second.now) (h, w.old) }
 {
-    let r = follow_on(h, two, first, second, w, 1, dt, false);
+    let r = follow_on(h, lists, w, 1, dt, false);
     w.copy_within(2048..4096, 4096);
     w.copy_within(2048..4096, 6144);
     r

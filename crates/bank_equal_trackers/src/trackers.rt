@@ -4,6 +4,7 @@ use tracker::state::{CarrierPllEkf, Tracked, Tuning};
 use tracker_power_ratio::PowerSums;
 
 impl Same for Tuning {
+    #[tactic(auto, using(crate::proofs::EqualBits::both))]
     fn same(&self, other: &Tuning) -> bool {
         self.q_phase.same(&other.q_phase)
             & self.q_freq.same(&other.q_freq)
@@ -25,6 +26,7 @@ impl Same for PowerSums {
 }
 
 impl Same for CarrierPllEkf {
+    #[tactic(auto, using(crate::proofs::EqualBits::both))]
     fn same(&self, other: &CarrierPllEkf) -> bool {
         self.modulation.same(&other.modulation)
             & self.tuning.same(&other.tuning)

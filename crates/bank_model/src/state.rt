@@ -9,7 +9,7 @@ use tracker::state::Tracked;
 // Three trackers with their covariances.
 #[derive(Clone, Copy)]
 pub struct EkfTrackingBank {
-    // Not an array: the scope and the layout in C name the three one by one.
+    // Not an array: the public definitions in specs/ name the three fields, as the layout in C does; of a list each would have to say that the place is there.
     pub t0: Tracked,
     pub t1: Tracked,
     pub t2: Tracked,

@@ -6,6 +6,7 @@ use bank_model::state::{EkfTrackingBank, FrequencyDiffs};
 use ieee754::conversion::f64_to_f32;
 use ieee754::sign::absf;
 use tracker::state::CarrierPllEkf;
+use tracker_covariance::states::Band;
 use tracker_readings::{frequency_of, scale_of};
 
 // The frequency in hertz as an f32.
@@ -13,7 +14,7 @@ use tracker_readings::{frequency_of, scale_of};
 fn hertz_f32(k: f64, t: CarrierPllEkf) -> f32
     ensures { result ≡ hertz32 k t }
 {
-    f64_to_f32(frequency_of(k, t))
+    f64_to_f32(frequency_of(k, t, Band::First))
 }
 
 // From each tracker to the next, subtracted as f32. The first tracker's modulation decides the scale.

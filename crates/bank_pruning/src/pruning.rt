@@ -6,6 +6,7 @@ use crate::discrepancy::compute_tracker_discrepancy;
 use bank_model::state::EkfTrackingBank;
 use ieee754::sign::abs;
 use tracker::state::{CarrierPllEkf, Tracked};
+use tracker_covariance::states::Band;
 use tracker_readings::frequency_of;
 
 // More than 150 Hz apart. This is compared as f64, unlike the discrepancy.
@@ -13,7 +14,7 @@ use tracker_readings::frequency_of;
 fn far_apart(k: f64, t: CarrierPllEkf, u: CarrierPllEkf) -> bool
     ensures { result ≡ far_apart k t u }
 {
-    abs(frequency_of(k, t) - frequency_of(k, u)) > 150.0
+    abs(frequency_of(k, t, Band::First) - frequency_of(k, u, Band::First)) > 150.0
 }
 
 // The tracker, unlocked and its metric 0 where it is dropped.

@@ -33,7 +33,7 @@ fn better_of(best: Option<Candidate>, number: u64, t: CarrierPllEkf) -> Option<C
 pub fn choose(b: EkfTrackingBank) -> Option<u64>
     ensures { result ≡ cond (ltb (chosen b) 3) (Some (chosen b)) None }
 {
-    // Not a fold: the bank names its trackers one by one, and an array of them is longer than the three calls.
+    // Not a fold: the bank has three fields (bank_model says why), and an array of them is longer than the three calls.
     let best = better_of(None, 0, b.t0.ekf);
     let best = better_of(best, 1, b.t1.ekf);
     let best = better_of(best, 2, b.t2.ekf);

@@ -24,7 +24,7 @@ fn tracker_features(h: Tracked) -> [f32; 4]
 pub fn collect_tracker_features(b: EkfTrackingBank) -> [f32; 12]
     ensures { result ≡ features b }
 {
-    // Not a loop: the bank names its trackers one by one.
+    // Not a loop: the bank has three fields; bank_model says why.
     let mut all = [0.0; 12];
     all[..4].copy_from_slice(&tracker_features(b.t0));
     all[4..8].copy_from_slice(&tracker_features(b.t1));

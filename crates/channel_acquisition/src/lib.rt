@@ -3,12 +3,10 @@
 #![tactic(auto)]
 
 ghost use Rattle.std.specs.Prelude.{◌≡◌};
-ghost use Rattle.channel_model.specs.Opening as opening;
 ghost use Rattle.channel_model.specs.Starting as model;
 
 use channel_model::{Channel, Setup};
 use estimate_esprit::estimate_frequency_esprit;
-use ieee754::conversion::u64_to_f64;
 use ieee754::integral::{round, to_usize};
 use tracker::state::Tracked;
 use tracker_measurement::modulation::Modulation;
@@ -21,20 +19,12 @@ pub fn starts(c: Channel) -> bool
     !c.pll.ekf.is_locked && (!c.ever_locked || c.last_snr < 0.0)
 }
 
-// The rate of the decimated samples.
-#[tactic(auto, unfolding(channel_model::specs::Opening::decimated_rate, channel_model::specs::Opening::whole))]
-fn decimated_rate(setup: Setup) -> f64
-    ensures { result ≡ opening.decimated_rate setup.rate setup.factor }
-{
-    u64_to_f64(setup.rate) / u64_to_f64(setup.factor)
-}
-
 // How many samples the estimate looks at: a hundredth of a second, rounded.
 #[tactic(auto, unfolding(channel_model::specs::Starting::chunk))]
 pub fn chunk(setup: Setup) -> usize
     ensures { result ≡ model.chunk setup }
 {
-    to_usize(round(0.01 * decimated_rate(setup)))
+    to_usize(round(0.01 * setup.decimated_rate()))
 }
 
 // BPSK has a carrier in the samples' squares.
@@ -52,7 +42,7 @@ pub fn start_frequency(m: Modulation, setup: Setup, samples: &[f32]) -> f64
     ensures { result ≡ model.start_frequency m setup samples.now }
 {
     let n = chunk(setup).saturating_mul(2).min(samples.len());
-    estimate_frequency_esprit(&samples[..n], squares(m), decimated_rate(setup))
+    estimate_frequency_esprit(&samples[..n], squares(m), setup.decimated_rate())
 }
 
 // A tracker of the bank starts where it is not locked.

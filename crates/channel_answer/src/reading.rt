@@ -5,7 +5,8 @@ ghost use Rattle.channel_model.specs.Readout as model;
 use channel_model::{Carriers, Reading};
 use estimate_dispersion::{cancel, electron_content};
 use tracker::state::CarrierPllEkf;
-use tracker_readings::{frequency_of, phase_of, second_frequency_of};
+use tracker_covariance::states::Band;
+use tracker_readings::{frequency_of, phase_of};
 
 // The frequency that offsets are counted from: the nominal one, or the target where that is 0.
 #[tactic(auto, unfolding(channel_model::specs::Readout::centre))]
@@ -21,13 +22,13 @@ pub fn centre(nominal: f64, target: f64) -> f64
 pub fn frequency_at(two: bool, k: f64, carriers: Carriers, target: f64, ekf: CarrierPllEkf) -> f64
     ensures { result ≡ model.frequency_at two k carriers target ekf }
 {
-    let offset = frequency_of(k, ekf);
+    let offset = frequency_of(k, ekf, Band::First);
     if two {
         cancel(
             carriers.nominal,
             carriers.frequency2,
             target + offset,
-            carriers.target2 + second_frequency_of(k, ekf),
+            carriers.target2 + frequency_of(k, ekf, Band::Second),
         )
     } else {
         centre(carriers.nominal, target) + offset

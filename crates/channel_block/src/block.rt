@@ -44,6 +44,7 @@ fn by_flag(
 }
 
 // Nothing is asked of the caller. A refused block gives all back as it was, also to an idle channel.
+// The two lists and the window memory are not one struct: C lends the three, and each function below is lent them anew.
 #[tactic(auto, unfolding(channel_model::specs::Blocks::blocked, channel_model::specs::Blocks::block_step, channel_model::specs::Blocks::untouched, channel_model::specs::Blocks::outcome))]
 pub fn block(
     c: Channel,
@@ -58,7 +59,7 @@ pub fn block(
         Ok(flag) => flag,
         Err(refusal) => {
             return Blocked {
-                answer: refused_answer(refusal.number()),
+                answer: refused_answer(refusal),
                 channel: c,
             };
         }

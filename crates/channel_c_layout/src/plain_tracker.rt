@@ -2,9 +2,8 @@
 ghost use Rattle.std.specs.Prelude.{◌≡◌};
 ghost use Rattle.channel_c_layout.specs.Trackers.{plain_tracker, real_tracker};
 
-use channel_open::modulation_of;
 use tracker::state::{CarrierPllEkf, Tracked, Tuning};
-use tracker_measurement::modulation::modulation_number;
+use tracker_measurement::modulation::Modulation;
 use tracker_power_ratio::PowerSums;
 
 // A tracker and its covariance, with a number for the modulation.
@@ -31,7 +30,7 @@ impl From<Tracked> for PlainTracker {
         let x = t.x;
         let p = h.p;
         PlainTracker {
-            modulation: modulation_number(t.modulation),
+            modulation: t.modulation.number(),
             tuning: t.tuning,
             x,
             p,
@@ -47,13 +46,13 @@ impl From<Tracked> for PlainTracker {
 impl From<PlainTracker> for Tracked {
     ghost from_gives = { λ p h. h ≡ real_tracker p };
 
-    #[tactic(auto, unfolding(crate::specs::Trackers::real_tracker))]
+    #[tactic(auto, unfolding(crate::specs::Trackers::real_tracker, channel_model::specs::Opening::modulation_of))]
     fn from(t: PlainTracker) -> Tracked {
         let x = t.x;
         let p = t.p;
         Tracked {
             ekf: CarrierPllEkf {
-                modulation: modulation_of(t.modulation),
+                modulation: Modulation::from(t.modulation),
                 tuning: t.tuning,
                 x,
                 envelope_ema: t.envelope_ema,

@@ -1,15 +1,15 @@
 // One case: its words from left to right, each of which sets something, makes calls, or says what is expected.
-ghost use Rattle.std.specs.Prelude.{◌≡◌, ◌+◌, ◌≤◌, ◌<◌, MatchOption, IfSome, length, drop};
+ghost use Rattle.std.specs.Prelude.{◌≡◌, ◌+◌, ◌≤◌, ◌<◌, MatchOption, IfSome, length, take, drop, get_or};
 ghost use Rattle.channel_cases.specs.Code.Cases as meant;
 
 use crate::number::{decimal_of, pattern};
-use crate::words::{after_end, end_of};
 use channel_script::letters::is_one_of;
 use channel_script::look::{quantity, rounded};
 use channel_script::session::Session;
 use channel_script::set::set;
 
 // The place of the sign in a word: after one letter or two. A word that has none is a script. Only one letter is set.
+#[tactic(auto, using(crate::proofs::CaseLaws::sign_short, crate::proofs::CaseLaws::sign_one, crate::proofs::CaseLaws::sign_two, crate::proofs::CaseLaws::sign_none))]
 fn sign_at(w: &[u8]) -> Option<usize>
     ensures value { MatchOption result
         (meant.sign_place w.now ≡ 0)
@@ -29,33 +29,20 @@ fn sign_at(w: &[u8]) -> Option<usize>
 }
 
 // What stands after the sign: a pattern, a quantity, or a decimal number.
+#[tactic(auto, using(crate::proofs::CaseLaws::value_none, crate::proofs::CaseLaws::value_pattern, crate::proofs::CaseLaws::value_name, crate::proofs::CaseLaws::value_decimal))]
 fn value(s: Session, w: &[u8]) -> f64
     ensures { result ≡ meant.value_of s w.now }
 {
-    let n = w.len();
-    if n == 0 {
-        return quantity(s, w);
+    match w {
+        [] => quantity(s, w),
+        [b'x', digits @ ..] => pattern(digits),
+        [.., last] if b'A' <= *last => quantity(s, w),
+        _ => decimal_of(w),
     }
-    if w[0] == b'x' {
-        return pattern(w);
-    }
-    let last = w[n - 1];
-    if b'A' <= last {
-        return quantity(s, w);
-    }
-    decimal_of(w)
-}
-
-// What stands after the sign at k.
-fn value_behind(s: Session, w: &[u8], k: usize) -> f64
-    requires { k < length w.now }
-    ensures { result ≡ meant.value_of s (drop (k + 1) w.now) }
-{
-    let from = k + 1;
-    value(s, &w[from..])
 }
 
 // No number, which a name that stands for nothing has, compares with none.
+#[tactic(auto, using(std::proofs::lemmas::Bool::Decides::nat_tests), unfolding(crate::specs::Code::Cases::compares_by, channel_script::specs::Code::Letters::stands_for))]
 fn compares(sign: u8, x: f64, y: f64) -> bool
     ensures { result ≡ meant.compares_by sign x y }
 {
@@ -68,68 +55,70 @@ fn compares(sign: u8, x: f64, y: f64) -> bool
     }
 }
 
-// Whether a word says what is expected.
-fn asks(w: &[u8]) -> bool
-    ensures { result ≡ meant.asks w.now }
+// What stands before the sign, the sign, and what stands behind it; none of a script.
+#[tactic(auto, using(pass_reader::proofs::ByteLaws::tail_is))]
+fn parts(w: &[u8]) -> Option<(&[u8], u8, &[u8])>
+    ensures { MatchOption result
+        (meant.sign_place w.now ≡ 0)
+        (λ r. (0 < meant.sign_place w.now)
+        × (meant.sign_place w.now < length w.now)
+        × (r.0.now ≡ take (meant.sign_place w.now) w.now)
+        × (r.1 ≡ get_or w.now (meant.sign_place w.now) 0)
+        × (r.2.now ≡ drop (meant.sign_place w.now + 1) w.now)) }
 {
-    match sign_at(w) {
-        Some(k) => w[k] != b':',
-        None => false,
-    }
+    let k = sign_at(w)?;
+    let behind = k + 1;
+    Some((&w[..k], w[k], &w[behind..]))
 }
 
-// Whether what a word expects, with its sign at k, holds.
-fn expected(s: Session, w: &[u8], k: usize) -> bool
-    requires { k < length w.now }
-    ensures { result ≡ meant.expected_at s w.now k }
-{
-    let v = value_behind(s, w, k);
-    let x = quantity(s, &w[..k]);
-    let y = rounded(&w[..k], v);
-    compares(w[k], x, y)
+// A case so far: its session, whether it asked something, and whether all that it asked holds.
+#[derive(Clone, Copy)]
+struct Judged {
+    session: Session,
+    asked: bool,
+    good: bool,
 }
 
-// Whether what a word expects holds; a word that expects nothing is right.
-fn is_right(s: Session, w: &[u8]) -> bool
-    ensures { result ≡ meant.is_right s w.now }
-{
-    let Some(k) = sign_at(w) else {
-        return true;
-    };
-    if w[k] == b':' {
-        return true;
+impl Judged {
+    // A script is played, a colon sets the letter before it, and any other sign says what is expected.
+    #[tactic(auto, using(std::proofs::lemmas::Bool::Decides::nat_tests), unfolding(crate::specs::Code::Cases::after_word, crate::specs::Code::Cases::asks, crate::specs::Code::Cases::is_right, crate::specs::Code::Cases::expected_at))]
+    fn with_word(self, w: &[u8]) -> Judged
+        ensures { result ≡ meant.judged self w.now }
+    {
+        let s = self.session;
+        let Some((name, sign, behind)) = parts(w) else {
+            return Judged {
+                session: s.played(w),
+                ..self
+            };
+        };
+        let v = value(s, behind);
+        if sign == b':' {
+            return Judged {
+                session: set(s, w[0], v),
+                ..self
+            };
+        }
+        let is_so = compares(sign, quantity(s, name), rounded(name, v));
+        Judged {
+            asked: true,
+            good: self.good & is_so,
+            ..self
+        }
     }
-    expected(s, w, k)
-}
-
-// The session after a word: a script is played, a colon sets, and nothing else changes it.
-fn after(s: Session, w: &[u8]) -> Session
-    ensures { result ≡ meant.after_word s w.now }
-{
-    let Some(k) = sign_at(w) else {
-        return s.played(w);
-    };
-    if w[k] == b':' {
-        return set(s, w[0], value_behind(s, w, k));
-    }
-    s
 }
 
 // A case that asks nothing, or has a letter that stands for nothing, does not hold.
 pub fn holds(line: &[u8]) -> bool
     ensures { result ≡ meant.case_holds line.now }
 {
-    let mut s = Session::new();
-    let mut asked = false;
-    let mut good = true;
-    let mut at = 0;
-    // Not `split`: the laws of a line's fields speak of the places where a word ends.
-    while at < line.len() {
-        let end = end_of(line, at, 32);
-        asked = asked | asks(&line[at..end]);
-        good = good & is_right(s, &line[at..end]);
-        s = after(s, &line[at..end]);
-        at = after_end(end, line.len());
-    }
-    good & asked & s.known
+    let unjudged = Judged {
+        session: Session::new(),
+        asked: false,
+        good: true,
+    };
+    let j = line
+        .split(|b| *b == b' ')
+        .fold(unjudged, |j, w| j.with_word(w));
+    j.good & j.asked & j.session.known
 }

@@ -4,7 +4,6 @@
 
 mod line;
 mod number;
-mod words;
 
 ghost use Rattle.std.specs.Prelude.{◌≡◌};
 ghost use Rattle.channel_cases.specs.Code.Groups.{with_case};
@@ -40,6 +39,7 @@ fn say_differs(case: &[u8]) {
 }
 
 // A count begins anew behind 2 ^ 32.
+#[tactic(auto, unfolding(crate::specs::Code::Groups::with_case))]
 fn judge(case: &[u8], g: Group) -> Group
     ensures { result ≡ with_case g case.now }
 {
@@ -67,7 +67,7 @@ fn take(text: &[u8], g: Option<Group>) -> Option<Group> {
         }
         _ => {
             let judged = judge(text, g.unwrap_or_default());
-            g.and(Some(judged))
+            g.map(|_| judged)
         }
     }
 }

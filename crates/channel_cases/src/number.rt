@@ -3,9 +3,9 @@ ghost use Rattle.std.specs.Prelude.{◌≡◌};
 ghost use Rattle.channel_cases.specs.Code.Numbers as meant;
 
 use vectors::line::Word;
-use vectors::with_digit;
+use vectors::word_of;
 
-// The digits so far as a whole number, the power of ten of those after the point, and the sign.
+// The digits so far as a whole number, the power of ten of those after the point, and the sign. Marks of what was read: no value goes with them.
 #[derive(Clone, Copy)]
 struct Decimal {
     negative: bool,
@@ -63,22 +63,19 @@ impl Decimal {
 pub fn decimal_of(s: &[u8]) -> f64
     ensures { result ≡ meant.decimal_of s.now }
 {
-    let mut d = Decimal {
+    let none = Decimal {
         negative: false,
         point: false,
         digits: 0.0,
         unit: 1.0,
     };
-    for b in s {
-        d = d.with_byte(*b);
-    }
-    d.quotient()
+    s.iter().fold(none, |d, b| d.with_byte(*b)).quotient()
 }
 
-// The f64 whose pattern stands as hexadecimal digits after the first byte.
-pub fn pattern(s: &[u8]) -> f64
-    ensures { result ≡ meant.pattern_of s.now }
+// The f64 whose pattern stands as hexadecimal digits.
+#[tactic(auto, unfolding(crate::specs::Code::Numbers::pattern_of))]
+pub fn pattern(digits: &[u8]) -> f64
+    ensures { result ≡ meant.pattern_of digits.now }
 {
-    let from = 1usize.min(s.len());
-    f64::of_pattern(s[from..].iter().fold(0, |v, b| with_digit(v, *b)))
+    f64::of_pattern(word_of(digits))
 }

@@ -45,10 +45,8 @@ pub fn release(c: Channel) -> Channel
         last_snr: 0.0,
         is_locked: false,
         reading: Reading {
-            phase: 0.0,
-            frequency: 0.0,
-            snr: 0.0,
             electrons: c.reading.electrons,
+            ..Reading::default()
         },
     }
 }

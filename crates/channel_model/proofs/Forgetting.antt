@@ -1,5 +1,5 @@
--- What a release forgets: the status, the first target, the tracker in use, the fade, all marks and all that is shown but the electron content. Assumes
--- nothing.
+-- What a release forgets: the status, the first target, the tracker in use, the fade, all marks and all that is shown but the electron content. Nothing
+-- cites it: it is what refuses the two edits of `released` in must-fail/. Assumes nothing.
 use mathlib.Core.Path.{◌≡◌, refl}
 use Rattle.channel_model.specs.declared.Channel.{Channel}
 use Rattle.channel_model.specs.Values.{unlocked}

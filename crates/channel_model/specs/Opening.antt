@@ -1,12 +1,12 @@
 -- Open (the scope, module 9; refusals 1 to 4). Definitions only.
-use Rattle.std.specs.Prelude.{ℕ, zero, suc, ◌*◌, Bool, false, cond, not, ◌&&◌, ◌||◌, [], ◌∷◌, leb, ltb, eqb, pos, Float}
+use Rattle.std.specs.Prelude.{ℕ, ◌*◌, Bool, false, cond, not, ◌&&◌, ◌||◌, [], ◌∷◌, leb, ltb, eqb, pos, Float}
 use Rattle.std.specs.Float.{binary64}
 use Rattle.std.specs.Float.Ieee.{of_int, le, to_unsigned}
 use Rattle.ieee754.specs.Binary32 as float32
 use Rattle.ieee754.specs.Binary64 as float
 use Rattle.ieee754.specs.Binary64.{times, over, one}
 use Rattle.tracker_measurement.specs.declared.modulation.Modulation.{Modulation}
-use Rattle.tracker_measurement.specs.declared.modulation.Modulation.TheVariants.{Carrier, Bpsk, Qpsk}
+use Rattle.tracker_measurement.specs.Numbers.{numbered_modulation}
 use Rattle.tracker.specs.declared.state.Tracked.{Tracked}
 use Rattle.tracker.specs.State.{initial_tracker}
 use Rattle.bank_model.specs.declared.state.EkfTrackingBank.{EkfTrackingBank}
@@ -37,9 +37,7 @@ open_refusal s = first_cause ((1, bad_rate s.rate s.factor) ∷ (2, ltb 2 s.modu
 
 -- 0 carrier, 1 BPSK, 2 QPSK
 unfoldable pub modulation_of : ℕ → Modulation
-modulation_of zero = Carrier
-modulation_of (suc zero) = Bpsk
-modulation_of (suc (suc n)) = Qpsk
+modulation_of n = numbered_modulation n
 
 -- a whole number as f64
 unfoldable pub whole : ℕ → Float

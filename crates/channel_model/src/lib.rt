@@ -1,18 +1,21 @@
-// Module 9 of the scope: the values of the channel and of its five calls, and in specs/ what the calls mean. The only functions here are between an enum and
-// the scope's numbers.
+// Module 9 of the scope: the values of the channel and of its five calls, and in specs/ what the calls mean. The only functions here are conversions between
+// these values and what a type is at rest.
 #![tactic(auto)]
 
 pub mod refusal;
 
 ghost use Rattle.std.specs.Prelude.{◌≡◌};
+ghost use Rattle.channel_model.specs.Answers.{refused_answer};
 ghost use Rattle.channel_model.specs.Assigning.{idle};
+ghost use Rattle.channel_model.specs.Opening.{decimated_rate, new_setup};
 ghost use Rattle.channel_model.specs.Returns.{returned};
 
 use crate::refusal::Refusal;
 use bank_model::state::EkfTrackingBank;
+use ieee754::conversion::u64_to_f64;
 use tracker::state::Tracked;
 
-// What open takes.
+// What open takes, as C gives it: so the modulation is a number, and one above 2 is refused.
 #[repr(C)]
 #[derive(Clone, Copy)]
 pub struct Settings {
@@ -27,7 +30,7 @@ pub struct Settings {
     pub ratio: f64,
 }
 
-// What opening settles and no call changes.
+// What opening settles and no call changes. Whether there is a bank is a mark, as C has it; C's channel has the bank's fields without one too.
 #[repr(C)]
 #[derive(Clone, Copy)]
 pub struct Setup {
@@ -35,6 +38,30 @@ pub struct Setup {
     pub factor: u64,
     pub bank: bool,
     pub two: bool,
+}
+
+impl Setup {
+    // The rate of the decimated samples.
+    #[tactic(auto, unfolding(crate::specs::Opening::decimated_rate, crate::specs::Opening::whole))]
+    pub fn decimated_rate(self) -> f64
+        ensures { result ≡ decimated_rate self.rate self.factor }
+    {
+        u64_to_f64(self.rate) / u64_to_f64(self.factor)
+    }
+}
+
+impl From<Settings> for Setup {
+    ghost from_gives = { λ s k. k ≡ new_setup s };
+
+    #[tactic(auto, unfolding(crate::specs::Opening::new_setup))]
+    fn from(s: Settings) -> Setup {
+        Setup {
+            rate: s.rate,
+            factor: s.factor,
+            bank: s.bank,
+            two: s.two,
+        }
+    }
 }
 
 #[derive(Clone, Copy, Debug, PartialEq, Eq)]
@@ -55,7 +82,7 @@ impl Status {
 
 // What assign sets, in Hz.
 #[repr(C)]
-#[derive(Clone, Copy)]
+#[derive(Clone, Copy, Default)]
 pub struct Carriers {
     pub nominal: f64,
     pub target: f64,
@@ -65,7 +92,7 @@ pub struct Carriers {
 
 // What a block's answer shows of the signal.
 #[repr(C)]
-#[derive(Clone, Copy)]
+#[derive(Clone, Copy, Default)]
 pub struct Reading {
     pub phase: f64,
     pub frequency: f64,
@@ -101,6 +128,28 @@ pub struct Answer {
     pub snr: f64,
     pub electrons: f64,
     pub metric: f64,
+}
+
+// The answer before any block: no tracker, and all else 0.
+impl Default for Answer {
+    ghost is_default = { λ a. a ≡ refused_answer 0 };
+
+    #[tactic(auto, unfolding(crate::specs::Answers::refused_answer))]
+    fn default() -> Answer {
+        Answer {
+            refusal: 0,
+            locked: false,
+            tracker: EkfTrackingBank::NONE,
+            in_fade: false,
+            fade_count: 0,
+            ended: false,
+            phase: 0.0,
+            frequency: 0.0,
+            snr: 0.0,
+            electrons: 0.0,
+            metric: 0.0,
+        }
+    }
 }
 
 // What a refused open or assign gives back: the cause, and the channel that the scope's table names.

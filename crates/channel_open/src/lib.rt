@@ -1,10 +1,11 @@
 // Module 9 of the scope, open: settings are refused by the first of their four faults, or make an idle channel.
+// Functions, and no methods: settings and a channel are types of a crate below, where alone they can have methods.
 #![tactic(auto)]
 
 ghost use Rattle.std.specs.Prelude.{◌≡◌};
 ghost use Rattle.channel_model.specs.Returns.{returned};
 ghost use Rattle.channel_model.specs.Code.Checks.{number_said};
-ghost use Rattle.channel_model.specs.Opening.{bad_rate, bad_ratio, open_refusal, modulation_of, decimated_rate, fade_steps, new_tracker, new_setup, resting_bank, no_carriers, new_channel, refused_settings, opened};
+ghost use Rattle.channel_model.specs.Opening.{bad_rate, bad_ratio, open_refusal, fade_steps, new_tracker, resting_bank, new_channel, refused_settings, opened};
 
 use bank_model::state::EkfTrackingBank;
 use channel_model::refusal::Refusal;
@@ -53,43 +54,23 @@ fn check(s: Settings) -> Result<(), Refusal>
     Ok(())
 }
 
-// 0 carrier, 1 BPSK, 2 and above QPSK.
-#[tactic(auto, unfolding(channel_model::specs::Opening::modulation_of))]
-pub fn modulation_of(n: u64) -> Modulation
-    ensures { result ≡ modulation_of n }
-{
-    match n {
-        0 => Modulation::Carrier,
-        1 => Modulation::Bpsk,
-        _ => Modulation::Qpsk,
-    }
-}
-
-// The rate of the decimated samples.
-#[tactic(auto, unfolding(channel_model::specs::Opening::decimated_rate, channel_model::specs::Opening::whole))]
-pub fn decimated_rate(rate: u64, factor: u64) -> f64
-    ensures { result ≡ decimated_rate rate factor }
-{
-    u64_to_f64(rate) / u64_to_f64(factor)
-}
-
 // How many blocks a fade lasts.
-#[tactic(auto, unfolding(channel_model::specs::Opening::fade_steps, channel_model::specs::Opening::whole))]
+#[tactic(auto, unfolding(channel_model::specs::Opening::fade_steps, channel_model::specs::Opening::whole, channel_model::specs::Opening::new_setup))]
 fn fade_steps(s: Settings) -> u64
     ensures { result ≡ fade_steps s }
 {
     let seconds = u64_to_f64(s.fade);
-    let rate = decimated_rate(s.rate, s.factor);
+    let rate = Setup::from(s).decimated_rate();
     to_usize(seconds * rate / 40000.0) as u64
 }
 
 // A tracker as opening makes each of the four.
-#[tactic(auto, unfolding(channel_model::specs::Opening::new_tracker, tracker::specs::State::initial_tracker))]
+#[tactic(auto, unfolding(channel_model::specs::Opening::new_tracker, channel_model::specs::Opening::new_setup, channel_model::specs::Opening::modulation_of, tracker::specs::State::initial_tracker))]
 fn new_tracker(s: Settings) -> Tracked
     ensures { result ≡ new_tracker s }
 {
-    let rate = decimated_rate(s.rate, s.factor);
-    let mut t = CarrierPllEkf::new(rate, modulation_of(s.modulation));
+    let rate = Setup::from(s).decimated_rate();
+    let mut t = CarrierPllEkf::new(rate, Modulation::from(s.modulation));
     t.ekf.tuning.adaptive_ekf = s.adaptive;
     t.ekf.tuning.dual_lock = s.dual_lock;
     t.ekf.tuning.frequency_ratio = s.ratio;
@@ -113,51 +94,21 @@ fn new_bank(s: Settings, h: Tracked) -> EkfTrackingBank
     }
 }
 
-#[tactic(auto, unfolding(channel_model::specs::Opening::new_setup))]
-fn new_setup(s: Settings) -> Setup
-    ensures { result ≡ new_setup s }
-{
-    Setup {
-        rate: s.rate,
-        factor: s.factor,
-        bank: s.bank,
-        two: s.two,
-    }
-}
-
-// None until the channel is assigned.
-#[tactic(auto, unfolding(channel_model::specs::Opening::no_carriers))]
-fn no_carriers() -> Carriers
-    ensures { result ≡ no_carriers }
-{
-    Carriers {
-        nominal: 0.0,
-        target: 0.0,
-        target2: 0.0,
-        frequency2: 0.0,
-    }
-}
-
-#[tactic(auto, unfolding(channel_model::specs::Opening::new_channel, channel_model::specs::Opening::idle_channel))]
+#[tactic(auto, unfolding(channel_model::specs::Opening::new_channel, channel_model::specs::Opening::idle_channel, channel_model::specs::Opening::no_carriers))]
 fn new_channel(s: Settings) -> Channel
     ensures { result ≡ new_channel s }
 {
     let pll = new_tracker(s);
     Channel {
-        setup: new_setup(s),
+        setup: Setup::from(s),
         status: Status::Idle,
-        carriers: no_carriers(),
+        carriers: Carriers::default(),
         pll,
         bank: new_bank(s, pll),
         ever_locked: false,
         last_snr: 0.0,
         is_locked: false,
-        reading: Reading {
-            phase: 0.0,
-            frequency: 0.0,
-            snr: 0.0,
-            electrons: 0.0,
-        },
+        reading: Reading::default(),
     }
 }
 
@@ -184,11 +135,9 @@ fn refused_settings() -> Settings
 pub fn open(s: Settings) -> Result<Channel, Refused>
     ensures { returned result ≡ opened s }
 {
-    match check(s) {
-        Ok(()) => Ok(new_channel(s)),
-        Err(refusal) => Err(Refused {
-            refusal,
-            channel: new_channel(refused_settings()),
-        }),
-    }
+    check(s).map_err(|refusal| Refused {
+        refusal,
+        channel: new_channel(refused_settings()),
+    })?;
+    Ok(new_channel(s))
 }

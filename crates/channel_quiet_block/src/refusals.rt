@@ -18,10 +18,13 @@ fn bad_length(n: usize) -> bool
 }
 
 // 9: samples with a flag that says there are none to be tracked.
-fn not_empty(flag: u64, n: usize) -> bool
-    ensures { result ≡ (ltb 1 flag && ltb 0 n) }
+fn not_empty(flag: Flag, n: usize) -> bool
+    ensures { result ≡ (ltb 1 (flag_number flag) && ltb 0 n) }
 {
-    (1 < flag) & (0 < n)
+    match flag {
+        Flag::NoSignal | Flag::Signal => false,
+        Flag::NotANumber | Flag::Clipped | Flag::Empty => 0 < n,
+    }
 }
 
 // 10.
@@ -50,7 +53,7 @@ pub fn check_block(
     if bad_length(first.len()) || bad_length(second.len()) {
         return Err(Refusal::Length);
     }
-    if not_empty(flag, first.len()) {
+    if not_empty(named, first.len()) {
         return Err(Refusal::NotEmpty);
     }
     if bad_second(two, first.len(), second.len()) {

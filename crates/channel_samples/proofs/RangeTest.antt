@@ -1,5 +1,6 @@
 -- Being at least -1,024 and at most 1,024 is being at most 1,024 in size. Assumes nothing.
 use mathlib.Core.Path.{◌≡◌, refl, ap, sym, ◌∙◌}
+use mathlib.Core.List.{List, [], ◌∷◌}
 use mathlib.Core.Bool.{Bool, true, false, ◌&&◌, ◌||◌, and-true}
 use Prim.Native.Nat.{ℕ, ◌+◌, ◌*◌, ◌<◌}
 use native.Mathlib.Omega.{arith}
@@ -8,6 +9,8 @@ use lib.Dec.{eqb}
 use lib.IntN.{pos}
 use lib.Ieee.{Float, nan, inf, fin, up, down, below, level, of_bits, neg, lt, le, eq}
 use lib.Ieee.Fits.{down_pos}
+use Rattle.std.specs.List.{list_all}
+use Rattle.sequences.specs.Folds.{every}
 use Rattle.ieee754.specs.Sign.{absolute}
 use Rattle.ieee754.specs.Binary32.{two_to10}
 use Rattle.channel_samples.specs.Limits.{in_range}
@@ -58,3 +61,9 @@ between (fin true m e) = negative (1 * 1024 * down e) (m * up e * 1) (limit (dow
 pub range_test : (x : Float) → (le (neg two_to10) x && le x two_to10) ≡ in_range x
 unfolding in_range
 range_test x = rw (low_is, high_is) (between x)
+
+-- the library's test of each element is `every`
+pub each_is_every : (p : Float → Bool) (xs : List Float) → list_all p xs ≡ every p xs
+unfolding every
+each_is_every p [] = refl
+each_is_every p (x ∷ xs) = ap (λ (b : Bool). p x && b) (each_is_every p xs)

@@ -15,7 +15,7 @@ pub fn unit_of(re: f32, im: f32) -> (f32, f32)
 }
 
 // Every whole pair in its place; an odd last number stays.
-// By index and not by chunks: once the chunks of `as_chunks_mut` are given back, the library's contract says nothing of what the slice holds.
+// By place: the library says nothing of what a slice ends as whose chunks were lent by `as_chunks_mut`, nor does a loop over `[re, im, rest @ ..]` of what it gives back.
 pub fn normalise(samples: &mut [f32])
     ensures { samples.new ≡ normalised samples.old }
 {

@@ -1,54 +1,19 @@
--- The memory that a block is lent: the samples that jump about as a loop writes them, and what a call on the front of three memories says of the whole of
--- them. Assumes nothing.
+-- The memory that a block is lent: what a call on the front of three memories says of the whole of them. Assumes nothing.
 use mathlib.Core.Path.{◌≡◌, refl, ap, sym, ◌∙◌}
 use mathlib.Core.Bool.{Bool, true, false}
-use mathlib.Core.List.{List, ◌∷◌, ◌++◌, append_assoc}
-use Prim.Native.Nat.{ℕ, suc, ◌+◌, ◌-◌, ◌*◌, ◌≤◌, ◌<◌}
-use native.Mathlib.Numerals.{add-one}
+use mathlib.Core.List.{List, ◌∷◌, ◌++◌}
+use Prim.Native.Nat.{ℕ, suc, ◌≤◌, ◌<◌}
 use native.Mathlib.Omega.{arith}
 use borrow.Author.Tests.{ltb-true, ltb-false}
 use lib.Dec.{ltb}
 use lib.Ieee.{Float}
-use lib.ListN.{length, take, drop, set, replicate, length-set, take-append-drop, drop_of_length-le}
-use lib.Seq.{take-suc-set, drop-set-lt, take_all, drop-drop}
-use Rattle.ieee754.specs.Binary32.{zero}
+use lib.ListN.{length, take, drop, set, replicate, drop_of_length-le}
+use lib.Seq.{take_all}
 use Rattle.channel_model.specs.declared.Blocked.{Blocked}
 use Rattle.channel_model.specs.declared.Channel.{Channel}
 use Rattle.channel_model.specs.Blocks.{Outcome, outcome, blocked}
 use Rattle.channel_script.specs.declared.session.Lists.{Lists}
-use Rattle.channel_script.specs.Code.Blocks.{cosine, sine, jumps_from, lent_block}
-
--- of N samples those before sample i are written, and zeros are left
-abbrev pub Written : ℕ → List Float → ℕ → Type 0
-Written N list i = (take (2 * i) list ++ jumps_from (N - i) i ≡ jumps_from N 0) × (drop (2 * i) list ≡ replicate (2 * (N - i) + 2) zero)
-
-module _ (N : ℕ) (list : List Float) (i : ℕ) (size : length list ≡ 2 * N + 2) where
-  pub written_next : {u v : Float} → i < N → u ≡ cosine i → v ≡ sine i → Written N list i → Written N (set (set list (2 * i) u) (2 * i + 1) v) (i + 1)
-  unfolding jumps_from
-  written_next {u} {v} h eu ev inv =
-      let n = N - (i + 1) in
-      let k = 2 * i in
-      let left : N - i ≡ suc n = omega arith in
-      let twice : 2 * (i + 1) ≡ suc (suc k) = omega arith in
-      let zeros : 2 * (N - i) + 2 ≡ suc (suc (2 * n + 2)) = omega arith in
-      let h0 : k < length list = omega arith in
-      let h1 : suc k < length (set list k u) = simp length-set (omega arith) in
-      let lt1 : suc k < suc (suc k) = omega arith in
-      let lt0 : k < suc (suc k) = omega arith in
-      let two : k + 2 ≡ suc (suc k) = omega arith in
-      let rest = rw zeros at inv.1 in
-      let done = rw (left, ← eu, ← ev) at inv.0 in (
-        rw (twice, add-one, take-suc-set (set list k u) (suc k) v h1, take-suc-set list k u h0, append_assoc, append_assoc) done,
-        rw (twice, add-one, drop-set-lt (suc (suc k)) (set list k u) (suc k) v lt1, drop-set-lt (suc (suc k)) list k u lt0) (sym (rw two at (drop-drop 2 k list)) ∙ ap (drop 2) rest),
-      )
-
-  pub written_all : i ≡ N → Written N list i → list ≡ jumps_from N 0
-  unfolding jumps_from
-  written_all e inv =
-      let none : N - i ≡ 0 = omega arith in
-      let z = rw none at inv.1 in
-      let d = rw none at inv.0 in
-      sym (take-append-drop (2 * i) list) ∙ ap (λ (l : List Float). take (2 * i) list ++ l) z ∙ d
+use Rattle.channel_script.specs.Code.Blocks.{lent_block}
 
 -- no more is lent than there is
 module _ (r n : ℕ) (l : List Float) (h : (r ≤ length l) × (r ≤ n) × (r < n → r ≡ length l)) where

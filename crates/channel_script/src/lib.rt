@@ -3,7 +3,10 @@
 #![tactic(auto)]
 
 pub mod block;
+mod call;
+mod change;
 pub mod letters;
 pub mod look;
+mod place;
 pub mod session;
 pub mod set;

@@ -1,11 +1,11 @@
-// What is looked at in a session, by its letters: a number each, a mark as 0 or 1. A function for the letters of a kind gives none where the letter is
-// none of its own.
-ghost use Rattle.std.specs.Prelude.{◌≡◌, cond, map, ◌+◌, ◌%◌};
-ghost use Rattle.std.specs.Float.Ieee.{ne};
+// What is looked at in a session: tables of letters, each with the number that it stands for, a mark as 0 or 1.
+// Not an enum of what is looked at: each of its 35 names would be declared, made of its letter and matched, where it now has one line.
+ghost use Rattle.std.specs.Prelude.{◌≡◌, map};
 ghost use Rattle.channel_script.specs.Code.Letters.{found};
 ghost use Rattle.channel_script.specs.Code.Looking as meant;
 
-use crate::letters::is_one_of;
+use crate::letters::{NoLetter, is_one_of};
+use crate::place::Place;
 use crate::session::{Seen, Session};
 use channel_control::figures::figures;
 use channel_model::{Answer, Channel};
@@ -18,142 +18,132 @@ fn mark(on: bool) -> f64
     if on { 1.0 } else { 0.0 }
 }
 
-#[tactic(auto, using(std::proofs::lemmas::Bool::Decides::nat_tests), unfolding(crate::specs::Code::Letters::found))]
-fn of_answer(a: Answer, letter: u8) -> Option<f64>
-    ensures { result ≡ found letter (meant.answer_names a) }
+// What a letter stands for in a table.
+fn found(names: &[(u8, f64)], letter: u8) -> Option<f64>
+    ensures { result ≡ found letter names.now }
 {
-    Some(match letter {
-        b'R' => u64_to_f64(a.refusal),
-        b'L' => mark(a.locked),
-        b'T' => u64_to_f64(a.tracker),
-        b'I' => mark(a.in_fade),
-        b'C' => u64_to_f64(a.fade_count),
-        b'E' => mark(a.ended),
-        b'P' => a.phase,
-        b'F' => a.frequency,
-        b'S' => a.snr,
-        b'N' => a.electrons,
-        b'M' => a.metric,
-        _ => return None,
-    })
+    let (_, value) = names.iter().find(|(name, _)| letter == *name)?;
+    Some(*value)
+}
+
+fn answer_names(a: Answer) -> [(u8, f64); 11]
+    ensures { result ≡ meant.answer_names a }
+{
+    [
+        (b'R', u64_to_f64(a.refusal)),
+        (b'L', mark(a.locked)),
+        (b'T', u64_to_f64(a.tracker)),
+        (b'I', mark(a.in_fade)),
+        (b'C', u64_to_f64(a.fade_count)),
+        (b'E', mark(a.ended)),
+        (b'P', a.phase),
+        (b'F', a.frequency),
+        (b'S', a.snr),
+        (b'N', a.electrons),
+        (b'M', a.metric),
+    ]
 }
 
 // Small letters ask the block before.
 fn of_before(a: Answer, letter: u8) -> Option<f64>
     ensures { result ≡ found letter (map meant.small (meant.answer_names a)) }
 {
-    if letter < 32 {
-        return None;
-    }
-    of_answer(a, letter - 32)
+    found(&answer_names(a), letter.checked_sub(32)?)
 }
 
-#[tactic(auto, using(std::proofs::lemmas::Bool::Decides::nat_tests), unfolding(crate::specs::Code::Letters::found))]
-fn of_seen(e: Seen, letter: u8) -> Option<f64>
-    ensures { result ≡ found letter (meant.seen_names e) }
+fn seen_names(e: Seen) -> [(u8, f64); 6]
+    ensures { result ≡ meant.seen_names e }
 {
-    Some(match letter {
-        b'O' => u64_to_f64(e.number),
-        b'*' => u64_to_f64(e.marks),
-        b'X' => f32_to_f64(e.re),
-        b'Y' => f32_to_f64(e.im),
-        b'A' => f32_to_f64(e.other),
-        b'B' => mark(e.touched),
-        _ => return None,
-    })
+    [
+        (b'O', u64_to_f64(e.number)),
+        (b'*', u64_to_f64(e.marks)),
+        (b'X', f32_to_f64(e.re)),
+        (b'Y', f32_to_f64(e.im)),
+        (b'A', f32_to_f64(e.other)),
+        (b'B', mark(e.touched)),
+    ]
 }
 
-#[tactic(auto, using(std::proofs::lemmas::Bool::Decides::nat_tests), unfolding(crate::specs::Code::Letters::found))]
-fn of_channel(c: Channel, letter: u8) -> Option<f64>
-    ensures { result ≡ found letter (meant.channel_names c) }
+fn channel_names(c: Channel) -> [(u8, f64); 11]
+    ensures { result ≡ meant.channel_names c }
 {
-    Some(match letter {
-        b'K' => mark(c.is_locked),
-        b'V' => mark(c.ever_locked),
-        b'Z' => f32_to_f64(c.last_snr),
-        b'G' => c.carriers.target,
-        b'J' => c.reading.frequency,
-        b'Q' => c.reading.snr,
-        b'U' => u64_to_f64(c.bank.active_idx),
-        b'1' => u64_to_f64(c.setup.rate),
-        b'2' => u64_to_f64(c.setup.factor),
-        b'3' => mark(c.setup.bank),
-        b'4' => mark(c.setup.two),
-        _ => return None,
-    })
-}
-
-// One more where two numbers differ. (There are twelve, so the remainder is the count.)
-fn counted(n: u64, x: f32, y: f32) -> u64
-    ensures { result ≡ n % 16 + cond (ne x y) 1 0 }
-{
-    n % 16 + if x != y { 1 } else { 0 }
+    [
+        (b'K', mark(c.is_locked)),
+        (b'V', mark(c.ever_locked)),
+        (b'Z', f32_to_f64(c.last_snr)),
+        (b'G', c.carriers.target),
+        (b'J', c.reading.frequency),
+        (b'Q', c.reading.snr),
+        (b'U', u64_to_f64(c.bank.active_idx)),
+        (b'1', u64_to_f64(c.setup.rate)),
+        (b'2', u64_to_f64(c.setup.factor)),
+        (b'3', mark(c.setup.bank)),
+        (b'4', mark(c.setup.two)),
+    ]
 }
 
 // How many of the figures are not the remembered ones.
-// Not a chain over both lists: a count of what a filter keeps of pairs of floats was not proved.
-fn differing(f: [f32; 12], g: [f32; 12]) -> u64
-    ensures { result ≡ meant.differing f g }
+fn differing(f: [f32; 12], remembered: [f32; 12]) -> u64
+    ensures { result ≡ meant.differing f remembered }
 {
-    let mut n = 0;
-    for i in 0..12 {
-        n = counted(n, f[i], g[i]);
-    }
-    n
+    f.iter().zip(&remembered).filter(|(x, y)| *x != *y).count() as u64
 }
 
-#[tactic(auto, using(std::proofs::lemmas::Bool::Decides::nat_tests), unfolding(crate::specs::Code::Letters::found))]
-fn of_figures(f: [f32; 12], remembered: [f32; 12], letter: u8) -> Option<f64>
-    ensures { result ≡ found letter (meant.figure_names f remembered) }
+fn figure_names(f: [f32; 12], remembered: [f32; 12]) -> [(u8, f64); 3]
+    ensures { result ≡ meant.figure_names f remembered }
 {
-    Some(match letter {
-        b'H' => f32_to_f64(f[1] + f[5] + f[9]),
-        b'W' => f32_to_f64(f[0] + f[4] + f[8]),
-        b'D' => u64_to_f64(differing(f, remembered)),
-        _ => return None,
-    })
+    [
+        (b'H', f32_to_f64(f[1] + f[5] + f[9])),
+        (b'W', f32_to_f64(f[0] + f[4] + f[8])),
+        (b'D', u64_to_f64(differing(f, remembered))),
+    ]
 }
 
 // By one letter.
 fn of_letter(e: Seen, c: Channel, letter: u8) -> Option<f64>
     ensures { result ≡ found letter (meant.one_letter e c) }
 {
-    of_seen(e, letter)
-        .or(of_channel(c, letter))
-        .or(of_figures(figures(c), e.figures, letter))
-        .or(of_answer(e.answer, letter))
+    found(&seen_names(e), letter)
+        .or(found(&channel_names(c), letter))
+        .or(found(&figure_names(figures(c), e.figures), letter))
+        .or(found(&answer_names(e.answer), letter))
         .or(of_before(e.before, letter))
 }
 
-#[tactic(auto, using(std::proofs::lemmas::Bool::Decides::nat_tests), unfolding(crate::specs::Code::Letters::found))]
-fn of_tracker(t: CarrierPllEkf, letter: u8) -> Option<f64>
-    ensures { result ≡ found letter (meant.tracker_names t) }
+fn tracker_names(t: CarrierPllEkf) -> [(u8, f64); 4]
+    ensures { result ≡ meant.tracker_names t }
 {
-    let x = t.x;
-    Some(match letter {
-        b'L' => mark(t.is_locked),
-        b'M' => t.lock_metric,
-        b'P' => x[0],
-        b'H' => x[0] / 2.0,
-        _ => return None,
-    })
+    [
+        (b'L', mark(t.is_locked)),
+        (b'M', t.lock_metric),
+        (b'P', t.x[0]),
+        (b'H', t.x[0] / 2.0),
+    ]
 }
 
-// By a place, 0, 1, 2 or 3, and a letter: in a tracker.
-#[tactic(auto, using(std::proofs::lemmas::Bool::Decides::nat_tests), unfolding(crate::specs::Code::Looking::found_in_tracker))]
+fn tracker_at(c: Channel, place: Place) -> CarrierPllEkf
+    ensures { result ≡ meant.tracker_at c place }
+{
+    match place {
+        Place::First => c.bank.t0.ekf,
+        Place::Second => c.bank.t1.ekf,
+        Place::Third => c.bank.t2.ekf,
+        Place::Pll => c.pll.ekf,
+    }
+}
+
+// By a place and a letter: in a tracker.
 fn in_tracker(c: Channel, place: u8, letter: u8) -> Option<f64>
     ensures { result ≡ meant.found_in_tracker c place letter }
 {
-    match place {
-        b'0' => of_tracker(c.bank.t0.ekf, letter),
-        b'1' => of_tracker(c.bank.t1.ekf, letter),
-        b'2' => of_tracker(c.bank.t2.ekf, letter),
-        b'3' => of_tracker(c.pll.ekf, letter),
-        _ => None,
+    match Place::try_from(place) {
+        Ok(place) => found(&tracker_names(tracker_at(c, place)), letter),
+        Err(NoLetter) => None,
     }
 }
 
 // The number that a name of one letter, or of a place and a letter, stands for. What stands for nothing has no number, which equals none.
+#[tactic(auto, using(crate::proofs::LookLaws::one_named, crate::proofs::LookLaws::two_named, crate::proofs::LookLaws::not_named, crate::proofs::Numbers::no_number))]
 pub fn quantity(s: Session, name: &[u8]) -> f64
     ensures { result ≡ meant.quantity_of s name.now }
 {
@@ -164,7 +154,8 @@ pub fn quantity(s: Session, name: &[u8]) -> f64
     }
 }
 
-// What is expected of a list's number is an f32.
+// What is expected of a list's number is an f32. The three letters stand in `seen_names` too: here is a name alone, and no session to make that table of.
+#[tactic(auto, using(crate::proofs::LookLaws::rounded_yes, crate::proofs::LookLaws::rounded_no, crate::proofs::LookLaws::rounded_other))]
 pub fn rounded(name: &[u8], v: f64) -> f64
     ensures { result ≡ meant.rounded_for name.now v }
 {

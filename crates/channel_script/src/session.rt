@@ -1,16 +1,17 @@
 // A channel between two calls, and the calls.
 ghost use Rattle.std.specs.Prelude.{◌≡◌};
-ghost use Rattle.channel_model.specs.Releasing as model;
 ghost use Rattle.channel_model.specs.Returns.{returned};
 ghost use Rattle.channel_script.specs.Code.Playing as meant;
 
-use crate::block::{lists_of, no_lists, run_block};
+use crate::block::{no_lists, run_block};
+use crate::call::Call;
+use crate::letters::NoLetter;
+use crate::place::Place;
 use channel_control::assign::assign;
 use channel_control::figures::figures;
 use channel_control::release::release;
 use channel_model::{Answer, Carriers, Channel, Refused, Settings, number_and_channel};
 use channel_open::open;
-use channel_quiet_block::quiet::refused_answer;
 
 // A block to come: its flag, how many numbers its lists and its window memory have, and what stands in them. The first list begins with re and
 // im, the second with other; all else in the lists is fill. With jumps the first list has 4,096 samples that no tracker follows.
@@ -33,8 +34,8 @@ pub struct Plan {
     pub settings: Settings,
     pub carriers: Carriers,
     pub lists: Lists,
-    // The tracker whose values are set: 0, 1 or 2, and above that `pll_tracker`.
-    pub place: u64,
+    // The tracker whose values are set.
+    pub place: Place,
 }
 
 // What the calls so far showed.
@@ -60,7 +61,7 @@ pub struct Seen {
 // In parts, so that a function takes no more than it needs.
 #[derive(Clone, Copy)]
 pub struct Session {
-    // Whether every letter so far stood for something.
+    // Whether every letter so far stood for something. A mark: the letters behind one that did not are played all the same.
     pub known: bool,
     pub plan: Plan,
     pub seen: Seen,
@@ -68,6 +69,7 @@ pub struct Session {
 }
 
 // A carrier at 40,000 samples a second, where a fade lasts as many blocks as seconds.
+// Not by the settings of a refused open or a Default, which differ in rate and fade: the text of the cases says all nine itself.
 fn first_settings() -> Settings
     ensures { result ≡ meant.first_settings }
 {
@@ -84,6 +86,7 @@ fn first_settings() -> Settings
     }
 }
 
+#[tactic(auto, using(crate::proofs::Numbers::target))]
 fn first_carriers() -> Carriers
     ensures { result ≡ meant.first_carriers }
 {
@@ -102,7 +105,7 @@ fn first_plan() -> Plan
         settings: first_settings(),
         carriers: first_carriers(),
         lists: no_lists(0),
-        place: 3,
+        place: Place::Pll,
     }
 }
 
@@ -110,7 +113,7 @@ impl Seen {
     fn nothing(number: u64) -> Seen
         ensures { result ≡ meant.nothing_seen number }
     {
-        let answer = refused_answer(0);
+        let answer = Answer::default();
         Seen {
             number,
             answer,
@@ -123,32 +126,6 @@ impl Seen {
             touched: false,
             figures: [0.0; 12],
         }
-    }
-
-    // The answer is held.
-    fn holding(self) -> Seen
-        ensures { result ≡ meant.holding self }
-    {
-        Seen {
-            held: self.answer,
-            ..self
-        }
-    }
-
-    // The answer that is held comes to the place of the one before.
-    fn bringing(self) -> Seen
-        ensures { result ≡ meant.bringing self }
-    {
-        Seen {
-            before: self.held,
-            ..self
-        }
-    }
-
-    fn remembering(self, figures: [f32; 12]) -> Seen
-        ensures { result ≡ meant.remembering self figures }
-    {
-        Seen { figures, ..self }
     }
 }
 
@@ -169,83 +146,55 @@ impl Session {
     }
 
     // The channel that open or assign returned, and its number.
-    fn returned(self, r: Result<Channel, Refused>) -> Session
-        ensures { result ≡ meant.after_return self (returned r) }
+    fn returned(&mut self, r: Result<Channel, Refused>)
+        ensures { self.new ≡ meant.after_return self.old (returned r) }
     {
         let (number, channel) = number_and_channel(r);
-        let seen = Seen {
-            number,
-            ..self.seen
-        };
-        Session {
-            channel,
-            seen,
-            ..self
-        }
-    }
-
-    fn released(self) -> Session
-        ensures { result ≡ meant.session_of self self.seen (model.released self.channel) }
-    {
-        Session {
-            channel: release(self.channel),
-            ..self
-        }
-    }
-
-    fn with_seen(self, seen: Seen) -> Session
-        ensures { result ≡ meant.session_of self seen self.channel }
-    {
-        Session { seen, ..self }
-    }
-
-    fn unknown(self) -> Session
-        ensures { result ≡ meant.unknown self }
-    {
-        Session {
-            known: false,
-            ..self
-        }
+        self.seen.number = number;
+        self.channel = channel;
     }
 
     #[tactic(auto, unfolding(crate::specs::Code::Playing::after_block))]
-    fn fed(self, l: Lists) -> Session
-        ensures { result ≡ meant.after_block self l }
+    fn fed(&mut self, l: Lists)
+        ensures { self.new ≡ meant.after_block self.old l }
     {
-        let o = run_block(self.channel, l);
-        Session {
-            channel: o.channel,
-            seen: o.seen_after(self.seen),
-            ..self
+        let left = run_block(self.channel, l);
+        self.channel = left.channel;
+        self.seen = left.seen_after(self.seen);
+    }
+
+    fn called(&mut self, call: Call)
+        ensures { self.new ≡ meant.after_call self.old call }
+    {
+        match call {
+            Call::Open => self.returned(open(self.plan.settings)),
+            Call::Assign => self.returned(assign(self.channel, self.plan.carriers)),
+            Call::Release => self.channel = release(self.channel),
+            Call::Hold => self.seen.held = self.seen.answer,
+            Call::Bring => self.seen.before = self.seen.held,
+            Call::Remember => self.seen.figures = figures(self.channel),
+            Call::Planned => self.fed(self.plan.lists),
+            Call::Block(l) => self.fed(l),
         }
     }
 
-    // A letter that stands for none of these is one of a block, or stands for nothing.
-    fn called(self, letter: u8) -> Session
-        ensures { result ≡ meant.after_letter self letter }
+    // A letter that stands for nothing is remembered.
+    fn after(&mut self, call: Result<Call, NoLetter>)
+        ensures { self.new ≡ meant.after self.old call }
     {
-        match letter {
-            b'O' => self.returned(open(self.plan.settings)),
-            b'a' => self.returned(assign(self.channel, self.plan.carriers)),
-            b'r' => self.released(),
-            b'h' => self.with_seen(self.seen.holding()),
-            b'H' => self.with_seen(self.seen.bringing()),
-            b'y' => self.with_seen(self.seen.remembering(figures(self.channel))),
-            _ => match lists_of(self.plan.lists, letter) {
-                Some(l) => self.fed(l),
-                None => self.unknown(),
-            },
+        match call {
+            Ok(call) => self.called(call),
+            Err(NoLetter) => self.known = false,
         }
     }
 
     // One call after the other.
-    // Not `fold`: what its closure makes of a whole session was not proved.
     pub fn played(self, script: &[u8]) -> Session
         ensures { result ≡ meant.after_script self script.now }
     {
         let mut s = self;
         for letter in script {
-            s = s.called(*letter);
+            s.after(Call::try_from(*letter));
         }
         s
     }

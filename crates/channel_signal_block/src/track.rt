@@ -8,6 +8,7 @@ use channel_answer::reading::{centre, read_from};
 use channel_answer::values::unlock;
 use channel_model::{Channel, Reading, Setup};
 use ieee754::conversion::u64_to_f64;
+use tracker_over_block::lists::Lists;
 use tracker_over_block::stretch::follow_on;
 use tracker_readings::{phase_of, scale_of};
 
@@ -20,19 +21,23 @@ pub fn interval(setup: Setup) -> f64
 }
 
 // The trackers over a block's samples: the three of the bank, or without one `pll_tracker`.
-// Not an array of 8,192 for the window memory, here and in the block: C lends a slice, which a block refuses by its length.
+// A slice and no array of 8,192 for the window memory, here and in the block: the scope has a channel lend `&mut w[2048*i..2048*(i+1)]` of it to a tracker.
 #[tactic(auto, unfolding(channel_model::specs::Tracking::followed_by, channel_model::specs::Values::with_all, channel_model::specs::Values::moved, bank_model::specs::Following::on_stretch))]
 pub fn follow(c: Channel, first: &[f32], second: &[f32], w: &mut [f64]) -> Channel
     requires { length w.old ≡ 8192 }
     ensures { (result, w.new) ≡ model.followed_by c.setup.bank c (record { two = c.setup.two; first = first.now; second = second.now }) w.old }
 {
-    let two = c.setup.two;
+    let lists = Lists {
+        two: c.setup.two,
+        first,
+        second,
+    };
     let dt = interval(c.setup);
     if c.setup.bank {
-        let bank = bank_over_block::following::follow(c.bank, two, first, second, w, dt);
+        let bank = bank_over_block::following::follow(c.bank, lists, w, dt);
         Channel { bank, ..c }
     } else {
-        let pll = follow_on(c.pll, two, first, second, w, 0, dt, false);
+        let pll = follow_on(c.pll, lists, w, 0, dt, false);
         Channel { pll, ..c }
     }
 }

@@ -1,6 +1,2 @@
--- What the functions decide, from what their steps ensure.
+-- What the window memory holds.
 pub mod MemoryLaws
-pub mod RestLaws
-pub mod CallCases
-pub mod BlockCases
-pub mod ListCases

@@ -2,5 +2,4 @@
 pub mod Memory
 pub mod Calls
 pub mod Blocks
-pub mod Lists
 pub mod Lines

@@ -1,168 +1,127 @@
-// Lines that are block calls. The lists stand in local arrays, of which as much is lent to the call as the line gives.
-ghost use Rattle.std.specs.Prelude.{◌≡◌, ◌≤◌, length};
-ghost use Rattle.channel_model.specs.Blocks.{outcome};
-ghost use Rattle.channel_vectors.specs.Code.Calls.{is_rest};
-ghost use Rattle.channel_vectors.specs.Code.Blocks.{blocked_in, window_mix, listed_words, ruled_words, left_words, made_block, block_line};
+// Lines that are block calls. The two lists stand in local arrays, of which as much is lent to the call as the line gives.
+ghost use Rattle.std.specs.Prelude.{◌≡◌, ◌<◌, ◌≤◌, drop, length, MatchOption};
+ghost use Rattle.vectors.specs.Code.Lines.{strip, left_of, number_at};
+ghost use Rattle.channel_vectors.specs.Code.Blocks.{blocked_in, left_by, window_mix, listed_words, ruled_words, ruled_list, listed_line, ruled_line};
 
-use crate::calls::After;
-use crate::lists::give;
+use crate::state::State;
 use channel_block::block::block;
-use channel_model::{Answer, Blocked, Channel};
-use channel_words::standing::{Words, stands_as};
-use vectors::line::{Word, ends, rest, stands};
+use channel_model::Answer;
+use channel_words::arguments::rule_in;
+use channel_words::standing::strip_value;
+use vectors::line::{Word, is_end, list_in, rest, strip};
 use vectors::mix::mix_all;
 
-// A block that is lent the first `size` numbers of the window memory.
-fn block_in(
-    c: Channel,
-    flag: u64,
-    first: &mut [f32],
-    second: &mut [f32],
-    windows: &mut [f64],
-    size: usize,
-) -> Blocked
-    ensures { outcome result first.new second.new windows.new ≡ blocked_in c (record { flag = flag; first = first.old; second = second.old }) size windows.old }
-{
-    let n = size.min(windows.len());
-    block(c, flag, first, second, &mut windows[..n])
+// What a block call answers, and one number for the window memory as it leaves it.
+#[derive(Clone, Copy)]
+struct Answered {
+    answer: Answer,
+    mix: u64,
 }
 
-#[tactic(auto, unfolding(crate::specs::Code::Blocks::window_mix))]
-fn window_mix(windows: &[f64]) -> u64
-    requires { 8192 ≤ length windows.now }
-    ensures { result ≡ window_mix windows.now }
-{
-    mix_all(0, &windows[..8192])
-}
-
-// Whether the answer, both lists and the window memory's number are what is left from place i on.
-fn listed_stand(
-    words: &[u64],
-    i: usize,
-    a: Answer,
+// What is left of a line behind the answer, both lists and the window memory's number.
+#[tactic(auto, using(vectors::proofs::LineLaws::strip_both, vectors::proofs::LineLaws::strip_words), unfolding(crate::specs::Code::Blocks::listed_words))]
+fn strip_listed<'a>(
+    words: &'a [u64],
+    r: Answered,
     first: &[f32],
     second: &[f32],
-    windows: &[f64],
-) -> bool
-    requires { 8192 ≤ length windows.now }
-    ensures { result ≡ is_rest i (listed_words a first.now second.now windows.now) words.now }
+) -> Option<&'a [u64]>
+    ensures { left_of result ≡ strip (listed_words r.answer first.now second.now r.mix) words.now }
 {
-    let w = rest(words, i);
-    let n = 11 + first.len();
-    let m = n + second.len();
-    stands_as(w, 0, a)
-        & stands(w, 11, first)
-        & stands(w, n, second)
-        & stands(w, m, &[window_mix(windows)])
-        & ends(w, m + 1)
+    let left = strip_value(words, r.answer)?;
+    let left = strip(left, first)?;
+    let left = strip(left, second)?;
+    strip(left, &[r.mix])
 }
 
-// Whether the answer and a number for each list and for the window memory are what is left from place i on.
-fn ruled_stand(
-    words: &[u64],
-    i: usize,
-    a: Answer,
+// The same with a number for each list.
+#[tactic(auto, using(vectors::proofs::LineLaws::strip_both, vectors::proofs::LineLaws::strip_words), unfolding(crate::specs::Code::Blocks::ruled_words))]
+fn strip_ruled<'a>(
+    words: &'a [u64],
+    r: Answered,
     first: &[f32],
     second: &[f32],
-    windows: &[f64],
-) -> bool
-    requires { 8192 ≤ length windows.now }
-    ensures { result ≡ is_rest i (ruled_words a first.now second.now windows.now) words.now }
+) -> Option<&'a [u64]>
+    ensures { left_of result ≡ strip (ruled_words r.answer first.now second.now r.mix) words.now }
 {
-    let w = rest(words, i);
-    let three = [mix_all(0, first), mix_all(0, second), window_mix(windows)];
-    stands_as(w, 0, a) & stands(w, 11, &three) & ends(w, 14)
+    let left = strip_value(words, r.answer)?;
+    strip(left, &[mix_all(0, first), mix_all(0, second), r.mix])
 }
 
-// A mark and not two closures: it is one mark of the line, and is tested here and where the lists are given.
-#[tactic(auto, unfolding(crate::specs::Code::Blocks::left_words))]
-fn answer_stands(
-    ruled: bool,
-    words: &[u64],
-    i: usize,
-    a: Answer,
-    first: &[f32],
-    second: &[f32],
-    windows: &[f64],
-) -> bool
-    requires { 8192 ≤ length windows.now }
-    ensures { result ≡ is_rest i (left_words ruled a first.now second.now windows.now) words.now }
+// A list by a rule, which is a count of pairs and the rule, in lent memory, and what is left of the line behind it; none where the memory is too short.
+#[tactic(auto, unfolding(crate::specs::Code::Blocks::ruled_list, channel_words::specs::Code::Rules::ruled_samples))]
+fn ruled_in<'a, 'b>(
+    words: &'b [u64],
+    memory: &'a mut [[f32; 2]],
+) -> Option<(&'a mut [f32], &'b [u64])>
+    ensures { MatchOption result
+        (length memory.old < number_at 0 words.now)
+        (λ r. (number_at 0 words.now ≤ length memory.old)
+        × (r.0.now ≡ ruled_list words.now)
+        × (r.1.now ≡ drop 7 words.now)) }
 {
-    if ruled {
-        ruled_stand(words, i, a, first, second, windows)
-    } else {
-        listed_stand(words, i, a, first, second, windows)
+    let pairs = memory.get_mut(..usize::at(words, 0))?;
+    rule_in(rest(words, 1)).samples(pairs);
+    Some((pairs.as_flattened_mut(), rest(words, 7)))
+}
+
+impl State {
+    // A block that is lent the first `size` numbers of the window memory. Its flag is a number, as the call takes it.
+    #[tactic(auto, unfolding(crate::specs::Code::Blocks::blocked_in, crate::specs::Code::Blocks::window_mix, channel_model::specs::Blocks::outcome))]
+    fn block(&mut self, flag: u64, first: &mut [f32], second: &mut [f32], size: usize) -> Answered
+        ensures left_value { left_by result.answer self.new first.new second.new ≡ blocked_in self.old.channel (record { flag = flag; first = first.old; second = second.old }) size self.old.windows }
+        ensures mix_value { result.mix ≡ window_mix self.new.windows }
+    {
+        let n = size.min(self.windows.len());
+        let r = block(self.channel, flag, first, second, &mut self.windows[..n]);
+        self.channel = r.channel;
+        let mix = mix_all(0, &self.windows[..8192]);
+        Answered {
+            answer: r.answer,
+            mix,
+        }
     }
-}
 
-// The call with the lists that the line gives. Behind them stand the length of the lent window memory and the answer.
-fn made_block(
-    ruled: bool,
-    words: &[u64],
-    behind: usize,
-    c: Channel,
-    first: &mut [f32],
-    second: &mut [f32],
-    windows: &mut [f64],
-) -> After
-    requires { 8192 ≤ length windows.old }
-    ensures { (result, windows.new) ≡ made_block ruled words.now behind c first.old second.old windows.old }
-{
-    let tail = rest(words, behind);
-    let flag = u64::at(words, 1);
-    let size = usize::at(tail, 0);
-    let r = block_in(c, flag, &mut *first, &mut *second, &mut *windows, size);
-    let agrees = answer_stands(
-        ruled,
-        tail,
-        1,
-        r.answer,
-        &first[..],
-        &second[..],
-        &windows[..],
-    );
-    After {
-        channel: r.channel,
-        agrees,
-    }
-}
-
-// The lists stand at the start of lent memory.
-fn block_line(
-    ruled: bool,
-    words: &[u64],
-    c: Channel,
-    first: &mut [f32],
-    second: &mut [f32],
-    windows: &mut [f64],
-) -> After
-    requires { (8200 ≤ length first.old) × (8200 ≤ length second.old) × (8192 ≤ length windows.old) }
-    ensures { (result, windows.new) ≡ block_line ruled words.now c windows.old }
-{
-    let Some(g) = give(ruled, words, &mut *first, &mut *second) else {
-        return After {
-            channel: c,
-            agrees: false,
+    // Behind the lists stand the length of the lent window memory and the answer.
+    #[tactic(auto, using(std::proofs::lemmas::Bool::Decides::nat_tests), unfolding(crate::specs::Code::Blocks::listed_line, vectors::specs::Code::Lines::is_rest))]
+    pub fn replay_listed(&mut self, words: &[u64]) -> bool
+        ensures { (result, self.new.channel, self.new.windows) ≡ listed_line words.now self.old.channel self.old.windows }
+    {
+        let mut first_memory = [0.0f32; 8200];
+        let mut second_memory = [0.0f32; 8200];
+        let Some((first, left)) = list_in(rest(words, 2), &mut first_memory) else {
+            return false;
         };
-    };
-    let n = g.first;
-    let m = g.second;
-    made_block(
-        ruled,
-        words,
-        g.behind,
-        c,
-        &mut first[..n],
-        &mut second[..m],
-        windows,
-    )
-}
+        let Some((second, left)) = list_in(left, &mut second_memory) else {
+            return false;
+        };
+        let r = self.block(
+            u64::at(words, 1),
+            &mut *first,
+            &mut *second,
+            usize::at(left, 0),
+        );
+        is_end(strip_listed(rest(left, 1), r, first, second))
+    }
 
-pub fn replay_block(ruled: bool, words: &[u64], c: Channel, windows: &mut [f64]) -> After
-    requires { 8192 ≤ length windows.old }
-    ensures { (result, windows.new) ≡ block_line ruled words.now c windows.old }
-{
-    let mut first = [0.0f32; 8200];
-    let mut second = [0.0f32; 8200];
-    block_line(ruled, words, c, &mut first, &mut second, windows)
+    #[tactic(auto, using(std::proofs::lemmas::Bool::Decides::nat_tests), unfolding(crate::specs::Code::Blocks::ruled_line, vectors::specs::Code::Lines::is_rest))]
+    pub fn replay_ruled(&mut self, words: &[u64]) -> bool
+        ensures { (result, self.new.channel, self.new.windows) ≡ ruled_line words.now self.old.channel self.old.windows }
+    {
+        let mut first_memory = [[0.0f32; 2]; 4096];
+        let mut second_memory = [[0.0f32; 2]; 4096];
+        let Some((first, left)) = ruled_in(rest(words, 2), &mut first_memory) else {
+            return false;
+        };
+        let Some((second, left)) = ruled_in(left, &mut second_memory) else {
+            return false;
+        };
+        let r = self.block(
+            u64::at(words, 1),
+            &mut *first,
+            &mut *second,
+            usize::at(left, 0),
+        );
+        is_end(strip_ruled(rest(left, 1), r, first, second))
+    }
 }

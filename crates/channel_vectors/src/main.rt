@@ -5,46 +5,60 @@
 
 mod blocks;
 mod calls;
-mod lists;
 mod memory;
+mod state;
 
-ghost use Rattle.std.specs.Prelude.{◌≡◌, ◌≤◌, length};
+ghost use Rattle.std.specs.Prelude.{◌≡◌};
 ghost use Rattle.channel_vectors.specs.Code.Lines.{replayed};
 
-use crate::blocks::replay_block;
-use crate::calls::{After, replay_call, replay_open};
-use crate::memory::set_memory;
-use channel_model::Channel;
-use vectors::line::{Word, ends};
+use crate::calls::{
+    replay_assign, replay_build, replay_figures, replay_open, replay_release, replay_standing,
+};
+use crate::memory::{set_by_start, set_place};
+use crate::state::State;
+use channel_model::number_and_channel;
+use channel_open::open;
+use channel_words::arguments::settings_in;
+use vectors::line::Word;
 
-// The window memory is one number longer than a block takes, so that a wrong length can be lent.
-#[tactic(auto, using(std::proofs::lemmas::Bool::Decides::nat_tests), unfolding(crate::specs::Code::Lines::replayed, crate::specs::Code::Lines::by_kind))]
-fn replay(words: &[u64], c: Channel, windows: &mut [f64]) -> After
-    requires { 8192 ≤ length windows.old }
-    ensures { (result, windows.new) ≡ replayed words.now c windows.old }
-{
-    let kind = u64::at(words, 0);
-    match kind {
-        0..=2 => {
-            set_memory(kind, words, windows);
-            After {
-                channel: c,
-                agrees: ends(words, kind as usize + 1),
+impl State {
+    // Numbers and not an enum: each kind stands once, beside the function that has its name.
+    #[tactic(auto, using(std::proofs::lemmas::Bool::Decides::nat_tests), unfolding(crate::specs::Code::Lines::replayed, crate::specs::Code::Lines::by_kind, crate::specs::Code::Memory::cleared, vectors::specs::Code::Lines::ends_at))]
+    fn replay(&mut self, words: &[u64]) -> bool
+        ensures { (result, self.new.channel, self.new.windows) ≡ replayed words.now self.old.channel self.old.windows }
+    {
+        match u64::at(words, 0) {
+            0 => {
+                self.windows.fill(0.0);
+                words.len() == 1
             }
+            1 => {
+                set_by_start(&mut self.windows, u64::at(words, 1));
+                words.len() == 2
+            }
+            2 => {
+                set_place(&mut self.windows, usize::at(words, 1), f64::at(words, 2));
+                words.len() == 3
+            }
+            3 => replay_open(words, &mut self.channel),
+            4 => replay_build(words, &mut self.channel),
+            5 => replay_assign(words, &mut self.channel),
+            6 => self.replay_listed(words),
+            7 => replay_release(words, &mut self.channel),
+            8 => replay_figures(words, self.channel),
+            9 => replay_standing(words, self.channel),
+            10 => self.replay_ruled(words),
+            _ => false,
         }
-        6 => replay_block(false, words, c, windows),
-        10 => replay_block(true, words, c, windows),
-        _ => replay_call(kind, words, c),
     }
 }
 
 fn main() {
-    let mut windows = [0.0; 8193];
     // Any channel: the first line opens or builds another.
-    let mut c = replay_open(&[0]).channel;
-    vectors::replay(&mut [0; 33300], |words| {
-        let r = replay(words, c, &mut windows);
-        c = r.channel;
-        r.agrees
-    });
+    let channel = number_and_channel(open(settings_in(&[]))).1;
+    let mut state = State {
+        channel,
+        windows: [0.0; 8193],
+    };
+    vectors::replay(&mut [0; 33300], |words| state.replay(words));
 }

@@ -1,18 +1,26 @@
 // A channel built from plain numbers.
-ghost use Rattle.std.specs.Prelude.{◌≡◌, ◌≤◌, drop};
-ghost use Rattle.channel_words.specs.Code.Built.{ten_at, behind_tracker, given_covariance, given_power, given_tuning, given_tracker, given_setup, given_status, given_reading, given_bank, channel_at, given_length};
+ghost use Rattle.std.specs.Prelude.{◌≡◌, ◌<◌, ◌≤◌, true, false, length, MatchOption};
+ghost use Rattle.channel_words.specs.Code.Built.{ten_at, tracker_length, behind_tracker, given_covariance, given_tuning, given_tracker, given_setup, given_status, given_reading, given_trackers, are_whole, behind_trackers, given_channel, is_whole, behind_channel};
 
 use crate::arguments::carriers_in;
 use bank_model::state::EkfTrackingBank;
 use channel_model::{Channel, Reading, Setup, Status};
-use channel_open::{decimated_rate, modulation_of};
 use tracker::state::{CarrierPllEkf, Tracked, Tuning};
 use tracker_covariance::initial::initial;
 use tracker_measurement::modulation::Modulation;
 use tracker_power_ratio::PowerSums;
-use vectors::line::{Word, array_at, rest};
+use vectors::line::{Word, array_in, rest};
 
-// Where a tracker's last ten numbers begin.
+// A channel's trackers, in the order in which they stand.
+#[derive(Clone, Copy)]
+struct Trackers {
+    pll: Tracked,
+    t0: Tracked,
+    t1: Tracked,
+    t2: Tracked,
+}
+
+// How many numbers of a tracker stand before its last ten.
 #[tactic(auto, unfolding(crate::specs::Code::Built::ten_at))]
 fn ten_at(words: &[u64]) -> usize
     ensures { (result ≡ ten_at words.now) × (result ≤ 43) }
@@ -20,33 +28,14 @@ fn ten_at(words: &[u64]) -> usize
     if bool::at(words, 6) { 43 } else { 7 }
 }
 
-#[tactic(auto, unfolding(crate::specs::Code::Built::behind_tracker))]
-fn behind_tracker(words: &[u64]) -> &[u64]
-    ensures { result.now ≡ behind_tracker words.now }
-{
-    let ten = ten_at(words);
-    rest(words, ten + 10)
-}
-
 #[tactic(auto, unfolding(crate::specs::Code::Built::given_covariance))]
 fn covariance_in(words: &[u64]) -> [f64; 36]
     ensures { result ≡ given_covariance words.now }
 {
     if bool::at(words, 6) {
-        array_at(words, 7)
+        array_in(rest(words, 7))
     } else {
         initial()
-    }
-}
-
-#[tactic(auto, unfolding(crate::specs::Code::Built::given_power))]
-fn power_in(ten: &[u64]) -> PowerSums
-    ensures { result ≡ given_power ten.now }
-{
-    PowerSums {
-        pushed: usize::at(ten, 5),
-        sum_abs_i: f64::at(ten, 2),
-        sum_q_sq: f64::at(ten, 3),
     }
 }
 
@@ -64,25 +53,34 @@ fn tuning_in(ten: &[u64], rate: f64) -> Tuning
     }
 }
 
-#[tactic(auto, unfolding(crate::specs::Code::Built::given_tracker))]
-fn tracker_in(words: &[u64], rate: f64, modulation: Modulation) -> Tracked
-    ensures { result ≡ given_tracker rate modulation words.now }
+// A tracker that a line begins with, and what is left of the line behind it; none where the line ends before.
+#[tactic(auto, unfolding(crate::specs::Code::Built::given_tracker, crate::specs::Code::Built::given_power, crate::specs::Code::Built::behind_tracker, crate::specs::Code::Built::tracker_length))]
+fn tracker_in(words: &[u64], rate: f64, modulation: Modulation) -> Option<(Tracked, &[u64])>
+    ensures { MatchOption result
+        (length words.now < tracker_length words.now)
+        (λ r. (tracker_length words.now ≤ length words.now)
+        × (r.0 ≡ given_tracker rate modulation words.now)
+        × (r.1.now ≡ behind_tracker words.now)) }
 {
-    let ten = rest(words, ten_at(words));
+    let place = ten_at(words);
+    let left = words.get(place + 10..)?;
+    let ten = rest(words, place);
     let ekf = CarrierPllEkf {
         modulation,
         tuning: tuning_in(ten, rate),
-        x: array_at(words, 0),
+        x: array_in(words),
         envelope_ema: f64::at(ten, 1),
-        power: power_in(ten),
+        power: PowerSums {
+            pushed: usize::at(ten, 5),
+            sum_abs_i: f64::at(ten, 2),
+            sum_q_sq: f64::at(ten, 3),
+        },
         lock_metric: f64::at(ten, 0),
         is_locked: bool::at(ten, 7),
         convergence_guard: usize::at(ten, 6),
     };
-    Tracked {
-        ekf,
-        p: covariance_in(words),
-    }
+    let p = covariance_in(words);
+    Some((Tracked { ekf, p }, left))
 }
 
 #[tactic(auto, unfolding(crate::specs::Code::Built::given_setup))]
@@ -120,54 +118,54 @@ fn reading_in(words: &[u64]) -> Reading
     }
 }
 
-#[tactic(auto, unfolding(crate::specs::Code::Built::given_bank, crate::specs::Code::Built::pll_numbers, crate::specs::Code::Built::first_numbers, crate::specs::Code::Built::second_numbers, crate::specs::Code::Built::third_numbers))]
-fn bank_in(words: &[u64], rate: f64, m: Modulation) -> EkfTrackingBank
-    ensures { result ≡ given_bank rate m words.now }
+// The four trackers of a channel, from the first one's first number on, and what is left of the line behind them; none where the line ends before.
+#[tactic(auto, using(std::proofs::lemmas::Bool::Decides::nat_tests), unfolding(crate::specs::Code::Built::given_trackers, crate::specs::Code::Built::are_whole, crate::specs::Code::Built::behind_trackers))]
+fn trackers_in(words: &[u64], rate: f64, m: Modulation) -> Option<(Trackers, &[u64])>
+    ensures { MatchOption result
+        (are_whole words.now ≡ false)
+        (λ r. (are_whole words.now ≡ true)
+        × (r.0 ≡ given_trackers rate m words.now)
+        × (r.1.now ≡ behind_trackers words.now)) }
 {
-    let first = behind_tracker(rest(words, 22));
-    let second = behind_tracker(first);
-    let third = behind_tracker(second);
-    EkfTrackingBank {
-        t0: tracker_in(first, rate, m),
-        t1: tracker_in(second, rate, m),
-        t2: tracker_in(third, rate, m),
-        active_idx: u64::at(words, 13),
-        in_fade: bool::at(words, 14),
-        fade_counter: u64::at(words, 16),
-        max_fade_steps: u64::at(words, 17),
-        terminated_in_fade: bool::at(words, 15),
-    }
+    let (pll, left) = tracker_in(words, rate, m)?;
+    let (t0, left) = tracker_in(left, rate, m)?;
+    let (t1, left) = tracker_in(left, rate, m)?;
+    let (t2, left) = tracker_in(left, rate, m)?;
+    Some((Trackers { pll, t0, t1, t2 }, left))
 }
 
-#[tactic(auto, unfolding(crate::specs::Code::Built::channel_at, crate::specs::Code::Built::given_channel, crate::specs::Code::Built::given_setup, crate::specs::Code::Built::pll_numbers))]
-pub fn channel_in(words: &[u64], i: usize) -> Channel
-    ensures { result ≡ channel_at i words.now }
+// A channel that a line begins with, and what is left of the line behind it; none where the line ends before.
+#[tactic(auto, unfolding(channel_model::specs::Opening::modulation_of, crate::specs::Code::Built::given_channel, crate::specs::Code::Built::given_bank, crate::specs::Code::Built::given_setup))]
+pub fn channel_in(words: &[u64]) -> Option<(Channel, &[u64])>
+    ensures { MatchOption result
+        (is_whole words.now ≡ false)
+        (λ r. (is_whole words.now ≡ true)
+        × (r.0 ≡ given_channel words.now)
+        × (r.1.now ≡ behind_channel words.now)) }
 {
-    let w = rest(words, i);
-    let setup = setup_in(w);
-    let rate = decimated_rate(setup.rate, setup.factor);
-    let m = modulation_of(u64::at(w, 2));
-    Channel {
+    let setup = setup_in(words);
+    let rate = setup.decimated_rate();
+    let m = Modulation::from(u64::at(words, 2));
+    let (h, left) = trackers_in(rest(words, 22), rate, m)?;
+    let channel = Channel {
         setup,
-        status: status_in(w),
-        carriers: carriers_in(w, 6),
-        pll: tracker_in(rest(w, 22), rate, m),
-        bank: bank_in(w, rate, m),
-        ever_locked: bool::at(w, 11),
-        last_snr: f32::at(w, 12),
-        is_locked: bool::at(w, 10),
-        reading: reading_in(w),
-    }
-}
-
-// How many numbers of the line, from place i on, a channel takes.
-#[tactic(auto, unfolding(crate::specs::Code::Built::given_length, crate::specs::Code::Built::pll_numbers, crate::specs::Code::Built::first_numbers, crate::specs::Code::Built::second_numbers, crate::specs::Code::Built::third_numbers))]
-pub fn channel_length(words: &[u64], i: usize) -> usize
-    ensures { (result ≡ given_length (drop i words.now)) × (result ≤ 234) }
-{
-    let pll = rest(rest(words, i), 22);
-    let first = behind_tracker(pll);
-    let second = behind_tracker(first);
-    let third = behind_tracker(second);
-    62 + ten_at(pll) + ten_at(first) + ten_at(second) + ten_at(third)
+        status: status_in(words),
+        carriers: carriers_in(rest(words, 6)),
+        pll: h.pll,
+        bank: EkfTrackingBank {
+            t0: h.t0,
+            t1: h.t1,
+            t2: h.t2,
+            active_idx: u64::at(words, 13),
+            in_fade: bool::at(words, 14),
+            fade_counter: u64::at(words, 16),
+            max_fade_steps: u64::at(words, 17),
+            terminated_in_fade: bool::at(words, 15),
+        },
+        ever_locked: bool::at(words, 11),
+        last_snr: f32::at(words, 12),
+        is_locked: bool::at(words, 10),
+        reading: reading_in(words),
+    };
+    Some((channel, left))
 }

@@ -1,6 +1,6 @@
 // Samples by a rule: a carrier that turns from pair to pair, with noise.
-ghost use Rattle.std.specs.Prelude.{◌≡◌, ◌*◌, length};
-ghost use Rattle.channel_words.specs.Code.Rules.{next_noise, noise_of, first_turn, next_turn, noisy, ruled_samples};
+ghost use Rattle.std.specs.Prelude.{◌≡◌, length};
+ghost use Rattle.channel_words.specs.Code.Rules.{next_noise, noise_of, first_turn, next_turn, noisy, ruled_pairs};
 
 use ieee754::conversion::{f64_to_f32, u64_to_f64};
 
@@ -67,16 +67,13 @@ impl Rule {
     }
 
     // The rule's pairs, over whatever stands in the lent list.
-    // Not an iterator over the pairs of the list: no contract says what is written through one.
-    pub fn samples(self, pairs: usize, list: &mut [f32])
-        requires { length list.old ≡ 2 * pairs }
-        ensures { list.new ≡ ruled_samples self pairs }
+    pub fn samples(self, list: &mut [[f32; 2]])
+        ensures { list.new ≡ ruled_pairs self (length list.old) }
     {
         let mut t = self.first_turn();
-        for k in 0..pairs {
+        for pair in list.iter_mut() {
             let x = next_noise(t.x);
-            list[2 * k] = self.noisy(t.re, x);
-            list[2 * k + 1] = self.noisy(t.im, next_noise(x));
+            *pair = [self.noisy(t.re, x), self.noisy(t.im, next_noise(x))];
             t = self.next_turn(t);
         }
     }

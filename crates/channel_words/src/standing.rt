@@ -1,13 +1,13 @@
-// Whether a channel stands in a line as it is.
+// A channel as it stands in a line, and what is left of the line behind it.
 ghost use Rattle.std.specs.Prelude.{◌≡◌, ◌<◌, ◌^◌, List, ℕ};
-ghost use Rattle.vectors.specs.Code.Lines.{stands_at};
-ghost use Rattle.channel_words.specs.Code.Standing.{tracker_mix, tracker_words, mark_words, reading_words, carrier_words, fade_words, bank_words, pll_words, standing_words};
+ghost use Rattle.vectors.specs.Code.Lines.{strip, left_of};
+ghost use Rattle.channel_words.specs.Code.Standing.{tracker_mix, tracker_words, mark_words, reading_words, carrier_words, fade_words, standing_words};
 
 use bank_model::state::EkfTrackingBank;
 use channel_model::{Carriers, Channel, Reading, Status};
 use tracker::state::Tracked;
-use vectors::line::{Word, rest, stands};
-use vectors::mix::{mix, mix_all};
+use vectors::line::{Word, strip};
+use vectors::mix::mix_all;
 
 // A value that stands in a line as N numbers.
 pub trait Words<const N: usize>: Copy {
@@ -17,27 +17,31 @@ pub trait Words<const N: usize>: Copy {
         ensures { result ≡ numbers self };
 }
 
-// Whether the value stands from place i of the line on.
-#[tactic(auto, using(vectors::proofs::LineLaws::stands_words))]
-pub fn stands_as<const N: usize, T: Words<N>>(words: &[u64], i: usize, x: T) -> bool
+// What is left of a line behind the value; none where the line begins otherwise.
+#[tactic(auto, using(vectors::proofs::LineLaws::strip_words))]
+pub fn strip_value<'a, const N: usize, T: Words<N>>(words: &'a [u64], x: T) -> Option<&'a [u64]>
     requires { N < 2 ^ 60 }
-    ensures { result ≡ stands_at i (T.numbers x) words.now }
+    ensures { left_of result ≡ strip (T.numbers x) words.now }
 {
     let numbers = x.words();
-    stands(words, i, &numbers)
+    strip(words, &numbers)
 }
 
+// One number for a tracker's lists and for what no other number shows of it.
+#[tactic(auto, unfolding(crate::specs::Code::Standing::tracker_mix))]
 fn tracker_mix(h: Tracked) -> u64
     ensures { result ≡ tracker_mix h }
 {
     let x = h.ekf.x;
     let p = h.p;
-    let sum = mix_all(mix_all(0, &x), &p);
-    let sum = mix(sum, h.ekf.envelope_ema);
-    let sum = mix(sum, h.ekf.power.sum_abs_i);
-    let sum = mix(sum, h.ekf.power.sum_q_sq);
-    let sum = mix(sum, h.ekf.tuning.ts);
-    mix(sum, h.ekf.tuning.frequency_ratio)
+    let more = [
+        h.ekf.envelope_ema,
+        h.ekf.power.sum_abs_i,
+        h.ekf.power.sum_q_sq,
+        h.ekf.tuning.ts,
+        h.ekf.tuning.frequency_ratio,
+    ];
+    mix_all(mix_all(mix_all(0, &x), &p), &more)
 }
 
 impl Words<5> for Tracked {
@@ -69,6 +73,7 @@ impl Words<4> for Reading {
     }
 }
 
+// Four floats as those of a reading, but each struct names its own.
 impl Words<4> for Carriers {
     ghost numbers = { carrier_words };
 
@@ -83,61 +88,51 @@ impl Words<4> for Carriers {
     }
 }
 
-#[tactic(auto, unfolding(crate::specs::Code::Standing::fade_words))]
-fn fade_words(b: EkfTrackingBank) -> [u64; 5]
-    ensures { result ≡ fade_words b }
-{
-    [
-        b.active_idx,
-        b.in_fade.pattern(),
-        b.fade_counter,
-        b.max_fade_steps,
-        b.terminated_in_fade.pattern(),
-    ]
-}
+// A bank by itself; its trackers stand behind.
+impl Words<5> for EkfTrackingBank {
+    ghost numbers = { fade_words };
 
-// A bank stands behind a channel's first 17 numbers.
-fn bank_stands(words: &[u64], b: EkfTrackingBank) -> bool
-    ensures { result ≡ stands_at 17 (bank_words b) words.now }
-{
-    let five = fade_words(b);
-    stands(words, 17, &five)
-        & stands_as(words, 22, b.t0)
-        & stands_as(words, 27, b.t1)
-        & stands_as(words, 32, b.t2)
-}
-
-#[tactic(auto, unfolding(crate::specs::Code::Standing::mark_words, channel_model::specs::Assigning::idle))]
-fn mark_words(c: Channel) -> [u64; 4]
-    ensures { result ≡ mark_words c.status c.is_locked c.ever_locked c.last_snr }
-{
-    [
-        matches!(c.status, Status::Assigned).pattern(),
-        c.is_locked.pattern(),
-        c.ever_locked.pattern(),
-        c.last_snr.pattern(),
-    ]
-}
-
-// A channel without its bank: the first 17 numbers.
-fn pll_stands(words: &[u64], c: Channel) -> bool
-    ensures { result ≡ stands_at 0 (pll_words c) words.now }
-{
-    let marks = mark_words(c);
-    stands(words, 0, &marks)
-        & stands_as(words, 4, c.reading)
-        & stands_as(words, 8, c.carriers)
-        & stands_as(words, 12, c.pll)
-}
-
-// Whether the channel stands from place i of the line on.
-pub fn channel_stands(words: &[u64], i: usize, c: Channel) -> bool
-    ensures { result ≡ stands_at i (standing_words c) words.now }
-{
-    let w = rest(words, i);
-    if c.setup.bank {
-        pll_stands(w, c) & bank_stands(w, c.bank)
-    } else {
-        pll_stands(w, c)
+    #[tactic(auto, unfolding(crate::specs::Code::Standing::fade_words))]
+    fn words(self) -> [u64; 5] {
+        [
+            self.active_idx,
+            self.in_fade.pattern(),
+            self.fade_counter,
+            self.max_fade_steps,
+            self.terminated_in_fade.pattern(),
+        ]
     }
+}
+
+// A channel by itself; its parts stand behind.
+impl Words<4> for Channel {
+    ghost numbers = { mark_words };
+
+    #[tactic(auto, unfolding(crate::specs::Code::Standing::mark_words, channel_model::specs::Assigning::idle))]
+    fn words(self) -> [u64; 4] {
+        [
+            matches!(self.status, Status::Assigned).pattern(),
+            self.is_locked.pattern(),
+            self.ever_locked.pattern(),
+            self.last_snr.pattern(),
+        ]
+    }
+}
+
+// A channel as it stands.
+#[tactic(auto, using(vectors::proofs::LineLaws::strip_both), unfolding(crate::specs::Code::Standing::standing_words, crate::specs::Code::Standing::pll_words, crate::specs::Code::Standing::bank_words))]
+pub fn strip_channel(words: &[u64], c: Channel) -> Option<&[u64]>
+    ensures { left_of result ≡ strip (standing_words c) words.now }
+{
+    let left = strip_value(words, c)?;
+    let left = strip_value(left, c.reading)?;
+    let left = strip_value(left, c.carriers)?;
+    let left = strip_value(left, c.pll)?;
+    if !c.setup.bank {
+        return Some(left);
+    }
+    let left = strip_value(left, c.bank)?;
+    let left = strip_value(left, c.bank.t0)?;
+    let left = strip_value(left, c.bank.t1)?;
+    strip_value(left, c.bank.t2)
 }

@@ -9,5 +9,3 @@ pub mod AngleBound
 pub mod SmallQuotient
 pub mod Range
 pub mod Cases
-pub mod SmallAngle
-pub mod Symmetry

@@ -15,10 +15,10 @@ pub fn atan2(y: f64, x: f64) -> f64
     ensures bits { result ≡ atan2_of y x }
     ensures promised { Arctangent y x result }
 {
-    if y != y {
+    if y.is_nan() {
         return y;
     }
-    if x != x {
+    if x.is_nan() {
         return x;
     }
     plane::angle(y, x)

@@ -9,9 +9,11 @@ ghost use Rattle.elementary_arctangent.specs.Code.Tests.{upper_angle, is_small};
 
 use crate::{quotient, sign};
 use elementary_fixed_point::conversion;
+use std::f64::consts;
 
 const STRAIGHT_ANGLE: u64 = 14488038916154245684;
 
+// An `if` by name: three calls of `angle` hand its value on, and in place each would be a branch of its own there.
 fn either(t: bool, p: f64, q: f64) -> f64
     ensures { result ≡ cond t p q }
 {
@@ -64,19 +66,16 @@ pub fn angle(y: f64, x: f64) -> f64
     let below = sign::negative(y);
     let left = sign::negative(x);
     if a == 0.0 {
-        return sign::with_sign(below, either(left, 3.141592653589793, 0.0));
+        return sign::with_sign(below, either(left, consts::PI, 0.0));
     }
-    if b == 1.0 / 0.0 {
-        if a == 1.0 / 0.0 {
-            return sign::with_sign(below, either(left, 2.356194490192345, 0.7853981633974483));
+    if b == f64::INFINITY {
+        if a == f64::INFINITY {
+            return sign::with_sign(below, either(left, 2.356194490192345, consts::FRAC_PI_4));
         }
-        return sign::with_sign(below, either(left, 3.141592653589793, 0.0));
+        return sign::with_sign(below, either(left, consts::PI, 0.0));
     }
-    if a == 1.0 / 0.0 {
-        return sign::with_sign(below, 1.5707963267948966);
-    }
-    if b == 0.0 {
-        return sign::with_sign(below, 1.5707963267948966);
+    if a == f64::INFINITY || b == 0.0 {
+        return sign::with_sign(below, consts::FRAC_PI_2);
     }
     regular_angle(y, x)
 }

@@ -54,8 +54,8 @@ fn first_octant(a: f64, b: f64) -> u64
     offset(a, b) + series::arctangent(x * 8)
 }
 
-// The smaller and the larger of two numbers above 0, in the form that is one instruction of the machine.
-// Not the library's `min` and `max`, which test for a NaN besides.
+// The smaller and the larger of two numbers above 0, in the form that is one instruction of the machine. A struct of the two would be built for these and be gone after them.
+// Not the library's `min` and `max`, which test for a NaN besides: the two and a division took 10.0 ns for 8.3.
 fn smaller(a: f64, b: f64) -> f64
     requires { T (positive a) × T (positive b) }
     ensures { result ≡ cond (le a b) a b }

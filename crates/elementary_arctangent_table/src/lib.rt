@@ -1,5 +1,6 @@
 // The coefficients of degree 0 to 5 of the arctangent around k / 64: the f64 nearest to those of the shifted Taylor sum. A static is read by one load; a const array would be built anew at
 // every use.
+// Begun, and used by nothing yet: the elementary functions by tables are to rest on it (docs/PORT.md, "Unfinished work").
 #![tactic(auto)]
 
 ghost use Rattle.std.specs.Prelude.{◌≡◌, ◌<◌};

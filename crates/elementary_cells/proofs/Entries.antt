@@ -44,6 +44,32 @@ table_at f xs fs t g e k d h =
     ap (λ (z : List Float). get_or z k d) e ∙ get_or-map (of_bits binary64) xs k 0 d h
     ∙ ap (λ (z : ℕ). of_bits binary64 z) (from f xs 0 t k h ∙ ap (λ (z : ℕ). to_bits binary64 (f z)) (zero-add k)) ∙ of_bits-to_bits binary64 (f k) (g k)
 
+-- each row of patterns, from row i on, has n numbers, and they are those of its entries
+unfoldable pub rows_follow : (ℕ → ℕ → Float) → ℕ → ℕ → List (List ℕ) → Bool
+unfolding follows
+rows_follow f n i [] = true
+rows_follow f n i (r ∷ rs) = eqb (length r) n && (follows (f i) 0 r && rows_follow f n (suc i) rs)
+
+row_from : (f : ℕ → ℕ → Float) (n : ℕ) (rs : List (List ℕ)) (i : ℕ) → T (rows_follow f n i rs) → (j : ℕ) → j < length rs → (length (get_or rs j []) ≡ n) × T (follows (f (i + j)) 0 (get_or rs j []))
+unfolding rows_follow
+row_from f n [] i t j h = absurd (not-suc-le-zero h)
+row_from f n (r ∷ rs) i t zero h = (
+  eqb→eq (length r) n (and_l (eqb (length r) n) (follows (f i) 0 r && rows_follow f n (suc i) rs) t),
+  subst (λ (m : ℕ). T (follows (f m) 0 r)) (sym (add-zero i)) (and_l (follows (f i) 0 r) (rows_follow f n (suc i) rs) (and_r (eqb (length r) n) (follows (f i) 0 r && rows_follow f n (suc i) rs) t)),
+)
+row_from f n (r ∷ rs) i t (suc j) h =
+    let rest = row_from f n rs (suc i) (and_r (follows (f i) 0 r) (rows_follow f n (suc i) rs) (and_r (eqb (length r) n) (follows (f i) 0 r && rows_follow f n (suc i) rs) t)) j (le_of_suc-le-suc h) in
+    (rest.0, subst (λ (m : ℕ). T (follows (f m) 0 (get_or rs j []))) (suc-add i j ∙ sym (add-suc i j)) rest.1)
+
+-- a table of floats in rows whose patterns they are has the entry at each place of each row
+pub rows_at : (f : ℕ → ℕ → Float) (n : ℕ) (rs : List (List ℕ)) (table : List (List Float)) → T (rows_follow f n 0 rs) → ((j k : ℕ) → T (fits binary64 (f j k))) → table ≡ map (map (of_bits binary64)) rs → (j k : ℕ) (d : Float) → j < length rs → k < n → get_or (get_or table j []) k d ≡ f j k
+rows_at f n rs table t g e j k d h i =
+    let row = row_from f n rs 0 t j h in
+    table_at (f j) (get_or rs j []) (get_or table j [])
+    (subst (λ (m : ℕ). T (follows (f m) 0 (get_or rs j []))) (zero-add j) row.1) (g j)
+    (ap (λ (z : List (List Float)). get_or z j []) e ∙ get_or-map (map (of_bits binary64)) rs j [] [] h)
+    k d (subst (λ (m : ℕ). k < m) (sym row.0) i)
+
 -- ---- an entry, u units to 1
 unfoldable pub entry : ℕ → Float → Signed
 entry u nan = at 0 0

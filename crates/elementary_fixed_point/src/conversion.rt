@@ -12,6 +12,7 @@ pub fn from_f64(r: f64) -> u64
 }
 
 // d units: the nearest f64 to d, times the unit.
+#[tactic(auto, unfolding(crate::specs::Conversion::scaled))]
 pub fn to_f64(d: u64, unit: f64) -> f64
     ensures { result ≡ scaled d unit }
 {

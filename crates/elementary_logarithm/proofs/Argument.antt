@@ -42,9 +42,6 @@ module _ (s : ℕ) (from : 2 ^ 52 ≤ s) (upto : s < 2 ^ 53) where
       go : (s : ℕ) → s < 2 ^ 53 → (s + 2 ^ 52 + 1) / 2 ≤ 2 ^ 53
       go s h = omega arith
 
-  pub u_upto : u ≤ 2 ^ 53
-  u_upto = le_trans uv v_upto
-
   pub argument_proper : Proper (of_int binary64 (pos u)) (of_int binary64 (pos v))
   argument_proper = whole_proper u v uv vp v_upto
 

@@ -2,16 +2,17 @@
 use mathlib.Core.Path.{◌≡◌, refl, sym, ap, ◌∙◌, subst}
 use mathlib.Core.Bool.{Bool, true, false, not, cond}
 use Prim.Native.Nat.{ℕ, suc, ◌+◌, ◌-◌, ◌*◌, ◌/◌, ◌%◌, ◌^◌, ◌≤◌, ◌<◌}
-use native.Mathlib.Nat.{le_trans, le_of_eq, lt_of_le_of_lt, lt_of_lt_of_le, lt_irrefl, lt_of_not-le, zero-lt-suc, mul_assoc, mul_right_comm, mul-one, zero-mul, mul-pos, mul-le-mul_right, mod-eq_of_lt}
+use native.Mathlib.Nat.{lt_of_le_of_lt, lt_irrefl, zero-lt-suc, mul_assoc, mul_right_comm, mul-one, zero-mul, mul-pos, mod-eq_of_lt}
 use native.Mathlib.Omega.{arith}
 use lib.IntN.{ℤ}
 use lib.Dec.{T, ltb, ltb→lt, nltb→le, T_not, lit<, lit≤}
-use lib.Pow.{pow_pos, pow-add, pow_mono, shl_lt}
-use lib.Count.{count_leading_zeros, leading_top}
+use lib.Pow.{pow_pos, pow-add}
+use lib.Count.{count_leading_zeros}
 use lib.Ieee.{Float, fin, binary64, up, down, neg, fits, to_bits}
 use lib.Ieee.Fits.{up_pos, and_l, and_r}
 use Rattle.ieee754.specs.Binary64.{two_to_minus81}
 use Rattle.ieee754.proofs.Fields.{below-infinity, size_low, size-normal, unsigned}
+use Rattle.ieee754.proofs.LeadingZeros.{zeros, up_lo, up_hi}
 use Rattle.elementary_fixed_point.specs.Conversion.{scaled}
 use Rattle.elementary_logarithm.specs.Steps.{one_bits, log_at, near_one, far_from_one, log_of_bits, common, past_one, before_one}
 use Rattle.elementary_logarithm.specs.Code.Parts.{is_near_one}
@@ -19,35 +20,6 @@ use Rattle.elementary_logarithm.proofs.Normal.{one_form}
 use Rattle.elementary_logarithm.proofs.Sign.{LogarithmAt}
 use Rattle.elementary_logarithm.proofs.FarBound.{log_at_lem}
 use Rattle.elementary_logarithm.proofs.NearBound.{past_one_lem, before_one_lem}
-
--- ---- a subnormal, shifted up past its leading zeros
-module _ (b : ℕ) (p : 0 < b) (small : b < 2 ^ 52) where
-  abbrev zeros : ℕ
-  zeros = count_leading_zeros 64 b
-
-  top : (j : ℕ) × (zeros + suc j ≡ 64) × (2 ^ j ≤ b) × (b < 2 ^ suc j)
-  top = leading_top 64 b p (lt_of_lt_of_le small (lit≤ tt))
-
-  exponent_lt : (i n : ℕ) → 2 ^ i < 2 ^ n → i < n
-  exponent_lt i n h = lt_of_not-le (λ (g : n ≤ i). lt_irrefl (2 ^ i) (lt_of_lt_of_le h (pow_mono g)))
-
-  pub zeros_range : (12 ≤ zeros) × (zeros ≤ 63)
-  zeros_range = let e = top.1 in let l : top.0 < 52 = exponent_lt top.0 52 (lt_of_le_of_lt top.2 small) in (omega arith, omega arith)
-
-  join : top.0 + (zeros - 11) ≡ 52
-  join = let e = top.1 in let z = zeros_range in omega arith
-
-  pub shifted_from : 2 ^ 52 ≤ b * 2 ^ (zeros - 11)
-  shifted_from = le_trans (le_of_eq (ap (λ (z : ℕ). 2 ^ z) (sym join) ∙ pow-add 2 top.0 (zeros - 11))) (mul-le-mul_right (2 ^ (zeros - 11)) top.2)
-
-  pub shifted_below : b * 2 ^ (zeros - 11) < 2 ^ 53
-  shifted_below = lt_of_lt_of_le (shl_lt (suc top.0) (zeros - 11) top.3) (pow_mono few)
-    where
-      few : suc top.0 + (zeros - 11) ≤ 53
-      few = let j = join in omega arith
-
-  pub shifted_fits : b * 2 ^ (zeros - 11) % 2 ^ 64 ≡ b * 2 ^ (zeros - 11)
-  shifted_fits = mod-eq_of_lt (lt_of_lt_of_le shifted_below (lit≤ tt))
 
 pub is_near : (b : ℕ) → T (is_near_one b) → (one_bits - 2 ^ 34 < b) × (b < one_bits + 2 ^ 34)
 is_near b t = (ltb→lt (one_bits - 2 ^ 34) b (and_l (ltb (one_bits - 2 ^ 34) b) (ltb b (one_bits + 2 ^ 34)) t), ltb→lt b (one_bits + 2 ^ 34) (and_r (ltb (one_bits - 2 ^ 34) b) (ltb b (one_bits + 2 ^ 34)) t))
@@ -175,14 +147,14 @@ module _ (m : ℕ) (e : ℤ) (F : T (fits binary64 (fin false (suc m) e))) where
 
       low : b < 2 ^ 52 → Found (suc m) e (log_at (b * 2 ^ (z - 11)) (52 - (z - 11)))
       low l =
-          let from : 2 ^ 52 ≤ b * 2 ^ (z - 11) = shifted_from b bits_pos l in
-          let below : b * 2 ^ (z - 11) < 2 ^ 53 = shifted_below b bits_pos l in
+          let from : 2 ^ 52 ≤ b * 2 ^ (z - 11) = up_lo b bits_pos l in
+          let below : b * 2 ^ (z - 11) < 2 ^ 53 = up_hi b bits_pos l in
           record {
             s = b * 2 ^ (z - 11);
             p = 52 - (z - 11);
             from = from;
             below = below;
-            is = lifted (b * 2 ^ 0) (low_value l) ∙ ap (λ (k : ℕ). k * down e) (ap (λ (k : ℕ). k * 2 ^ 52) (mul-one b) ∙ ap (λ (k : ℕ). b * 2 ^ k) (sym (back z (zeros_range b bits_pos l).1)) ∙ ap (λ (k : ℕ). b * k) (pow-add 2 (z - 11) (52 - (z - 11))) ∙ sym (mul_assoc b (2 ^ (z - 11)) (2 ^ (52 - (z - 11)))));
+            is = lifted (b * 2 ^ 0) (low_value l) ∙ ap (λ (k : ℕ). k * down e) (ap (λ (k : ℕ). k * 2 ^ 52) (mul-one b) ∙ ap (λ (k : ℕ). b * 2 ^ k) (sym (back z (zeros b bits_pos l).1)) ∙ ap (λ (k : ℕ). b * k) (pow-add 2 (z - 11) (52 - (z - 11))) ∙ sym (mul_assoc b (2 ^ (z - 11)) (2 ^ (52 - (z - 11)))));
             logarithm = log_at_lem (b * 2 ^ (z - 11)) (52 - (z - 11)) from below (few z) (λ (h : b * 2 ^ (z - 11) * 2 ^ (52 - (z - 11)) ≡ 2 ^ 1126). other z (one_form (b * 2 ^ (z - 11)) (52 - (z - 11)) (2 ^ 52) 1074 from below (lit≤ tt) (lit< tt) (h ∙ pow-add 2 52 1074)).0);
           }
         where

@@ -13,16 +13,16 @@ pub fn log10(x: f64) -> f64
     ensures bits { result ≡ log10_of x }
     ensures promised { CommonLogarithm x result }
 {
-    if x != x {
+    if x.is_nan() {
         return x;
     }
     if x == 0.0 {
-        return -1.0 / 0.0;
+        return f64::NEG_INFINITY;
     }
     if x < 0.0 {
-        return 0.0 / 0.0;
+        return f64::NAN;
     }
-    if x == 1.0 / 0.0 {
+    if x == f64::INFINITY {
         return x;
     }
     let b: u64 = f64::to_bits(x);

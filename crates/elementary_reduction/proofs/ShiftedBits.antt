@@ -166,14 +166,3 @@ finish_far m n x r t h g e =
     all n = omega arith
 
 -- ---- what fits
-pub limb_fits : (w : ℕ) → w < 2 ^ 41 → w * 1048576 < 2 ^ 61
-limb_fits w h = omega arith
-
-pub top_fits : (w : ℕ) → w < 2 ^ 40 → w * 1048576 < 2 ^ 60
-top_fits w h = omega arith
-
-pub upper_fits : (w : ℕ) → w < 2 ^ 40 → w * 16777216 < 2 ^ 64
-upper_fits w h = omega arith
-
-pub sum_fits : (v w : ℕ) → v < 2 ^ 41 → w < 2 ^ 40 → w * 16777216 + v / 131072 < 2 ^ 64
-sum_fits v w f g = omega arith

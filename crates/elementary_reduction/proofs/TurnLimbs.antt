@@ -170,12 +170,6 @@ module _ (a0 a1 a2 a3 : ℕ) (f3 : a3 < 2 ^ 60) (q t0 t1 t2 : ℕ) (dq : q ≡ a
       go : (a q r k : ℕ) → 2097152 ≤ k + q → q * (T3 + 1) + r ≡ a → q * T3 + 2097152 ≤ a + k
       go a q r k f e = omega arith
 
-  pub top_below : a3 + t2 / B - q * T3 - 2097152 < 2 ^ 40
-  top_below = go a3 q (a3 % (T3 + 1)) (t2 / B) (quotient a3 q f3 dq) b.most whole (mod-lt a3 (lit< {m = 0} {n = T3 + 1} tt))
-    where
-      go : (a q r k : ℕ) → q ≤ 1335088 → k < 2 ^ 22 → q * (T3 + 1) + r ≡ a → r < T3 + 1 → a + k - q * T3 - 2097152 < 2 ^ 40
-      go a q r k f g e h = omega arith
-
   -- the same remainder
   pub carried : (w0 w1 w2 w3 : ℕ) → t0 ≡ a0 + 2097152 * (2 ^ 41 - 1) + 2097152 - q * T0 → t1 ≡ a1 + 2097152 * (2 ^ 41 - 1) + t0 / B - q * T1 → t2 ≡ a2 + 2097152 * (2 ^ 41 - 1) + t1 / B - q * T2
       → RestLimbs (limbs B (t0 % B) (t1 % B) (t2 % B) (a3 + t2 / B - q * T3 - 2097152)) w0 w1 w2 w3 → RestLimbs (limbs B a0 a1 a2 a3) w0 w1 w2 w3

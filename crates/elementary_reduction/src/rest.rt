@@ -2,7 +2,8 @@
 ghost use Rattle.std.specs.Prelude.{◌^◌};
 ghost use Rattle.elementary_reduction.specs.Code.Limbs.{limbs, RestLimbs};
 
-// In four limbs of 41 bits, the lowest first. A limb can be too large.
+// In four limbs of 41 bits, the lowest first. A limb can be too large. By names, and no array: the limbs have bounds of their own, the top one's another, and without a loop (see
+// `powers`) an index would only stand for a name.
 #[derive(Clone, Copy)]
 pub struct Limbs {
     pub w0: u64,

@@ -4,21 +4,21 @@ use mathlib.Core.Bool.{Bool, true, false, not, true≢false}
 use Prim.Native.Nat.{ℕ, ◌+◌, ◌*◌, ◌^◌, ◌≤◌, ◌<◌}
 use native.Mathlib.Omega.{arith}
 use lib.IntN.{ℤ}
-use lib.Dec.{T, ltb, ltb→lt, nltb→le, lt→ltb, not_T}
-use lib.Ieee.{Float, nan, inf, fin, binary64, up, down, lt, ne, div, fits, is_nan, of_bits}
-use lib.Ieee.Bits.{is_false}
+use lib.Dec.{T, ltb, ltb→lt, nltb→le, lt→ltb}
+use lib.Ieee.{Float, nan, inf, fin, binary64, up, down, lt, fits, of_bits}
 use lib.Ieee.Fits.{down_pos}
 use lib.Ieee.Positive.{num, den}
 use lib.Ieee.Scale.{finite}
+use Rattle.std.specs.Prelude.{cond, Option, Some, None}
+use Rattle.std.proofs.lemmas.Option.{none-some, same_Some}
 use Rattle.ieee754.specs.Sign.{absolute, signed}
-use Rattle.ieee754.proofs.Fields.{yes, no, nan_yes, zero_by_zero}
+use Rattle.ieee754.proofs.Fields.{yes, no}
 use Rattle.elementary_fixed_point.specs.Product.{hi}
 use Rattle.elementary_fixed_point.specs.Conversion.{fixed}
 use Rattle.elementary_fixed_point.specs.Code.Bounds.{Fixable, nonnegative}
 use Rattle.ieee754_rounding.proofs.FormatValues.{fits_unsigned}
 use Rattle.ieee754.specs.Binary64.{two_pi, two_to_minus16}
 use Rattle.elementary_reduction.specs.Reduction.{reduced}
-use Rattle.elementary_reduction.proofs.Fractions.{turns}
 use Rattle.elementary_sincos.specs.Steps.{sine_series, cosine_series, sine, cosine}
 use Rattle.elementary_sincos.specs.Promise.{SinePromise, CosinePromise}
 use Rattle.elementary_sincos.specs.Code.Parts.{sine_from, cosine_from}
@@ -27,39 +27,40 @@ use Rattle.elementary_sincos.proofs.OneTurn.{within_fixable, within_is, beyond}
 use Rattle.elementary_sincos.proofs.Bounds.{reduced_most, sine_everywhere, cosine_everywhere}
 use Rattle.elementary_sincos.proofs.Symmetry.{sine_odd, sine_small, cosine_even, cosine_zero}
 
--- 0.0 / 0.0 and 1.0 / 0.0, as the code writes them
-abbrev pub zero_over_zero : Float
-zero_over_zero = div binary64 (of_bits binary64 0) (of_bits binary64 0)
-
+-- INFINITY, as the code writes it
 abbrev pub infinite : Float
-infinite = div binary64 (of_bits binary64 0x3ff0_0000_0000_0000) (of_bits binary64 0)
+infinite = of_bits binary64 0x7ff0_0000_0000_0000
 
 infinite_is : infinite ≡ inf false
-unfolding div of_bits
+unfolding of_bits
 infinite_is = refl
 
--- a NaN comes back
-pub of_nan : (θ : Float) → ne θ θ ≡ true → (θ ≡ sine θ) × (θ ≡ cosine θ)
-unfolding is_nan sine cosine
-of_nan θ h = go θ (nan_yes θ h)
-  where
-    go : (θ : Float) → is_nan θ ≡ true → (θ ≡ sine θ) × (θ ≡ cosine θ)
-    go nan p = (refl, refl)
-    go (inf s) p = absurd (true≢false (sym p))
-    go (fin s m e) p = absurd (true≢false (sym p))
+-- what the code's remainder of an angle is
+abbrev pub remainder_of : Float → Option ℕ
+remainder_of θ = cond (finite θ) (Some (reduced θ)) None
 
 -- below 2 ^ -16
 pub of_small : (θ : Float) → lt (absolute θ) two_to_minus16 ≡ true → θ ≡ sine θ
 of_small θ h = sym (sine_small θ (yes h))
 
 -- no number
-pub of_none : (θ : Float) → lt (absolute θ) infinite ≡ false → (zero_over_zero ≡ sine θ) × (zero_over_zero ≡ cosine θ)
-of_none θ h = go θ (sym (ap (λ (z : Float). lt (absolute θ) z) infinite_is) ∙ h)
+not_below_infinity : (θ : Float) → lt (absolute θ) infinite ≡ false → finite θ ≡ false
+not_below_infinity θ h = go θ (sym (ap (λ (z : Float). lt (absolute θ) z) infinite_is) ∙ h)
   where
-    go : (θ : Float) → lt (absolute θ) (inf false) ≡ false → (zero_over_zero ≡ sine θ) × (zero_over_zero ≡ cosine θ)
-    go nan h = (zero_by_zero binary64 ∙ unfold sine in refl, zero_by_zero binary64 ∙ unfold cosine in refl)
-    go (inf s) h = (zero_by_zero binary64 ∙ unfold sine in refl, zero_by_zero binary64 ∙ unfold cosine in refl)
+    go : (θ : Float) → lt (absolute θ) (inf false) ≡ false → finite θ ≡ false
+    go nan h = refl
+    go (inf s) h = refl
     go (fin s m e) h = absurd (true≢false (unfold absolute lt in h))
+
+pub no_remainder : (θ : Float) → lt (absolute θ) infinite ≡ false → None ≡ remainder_of θ
+no_remainder θ h = sym (ap (λ (b : Bool). cond b (Some (reduced θ)) None) (not_below_infinity θ h))
+
+-- an angle without a remainder has no sine and no cosine
+pub of_none : (θ : Float) → None ≡ remainder_of θ → (of_bits binary64 0x7ff8_0000_0000_0000 ≡ sine θ) × (of_bits binary64 0x7ff8_0000_0000_0000 ≡ cosine θ)
+unfolding of_bits sine cosine
+of_none nan h = (refl, refl)
+of_none (inf s) h = (refl, refl)
+of_none (fin s m e) h = absurd (none-some _ h)
 
 -- from there on `r < 0.0` is the sign
 sign_is : (s : Bool) (m : ℕ) (e : ℤ) → lt (fin false m e) two_to_minus16 ≡ false → lt (fin s m e) (of_bits binary64 0) ≡ s
@@ -127,37 +128,24 @@ under_infinity θ h = go θ (sym (ap (λ (z : Float). lt (absolute θ) z) infini
     go (inf s) h = absurd (true≢false (sym (unfold absolute lt in h)))
     go (fin s m e) h = record { s = s; m = m; e = e; is = refl; from = unfold absolute in tt }
 
+-- an angle with its remainder
+pub some_remainder : (θ : Float) (x : ℕ) → Known θ x → Some x ≡ remainder_of θ
+unfolding reduced absolute
+some_remainder θ x k = ap Some (k.value ∙ ap (λ (z : Float). reduced (absolute z)) k.is) ∙ sym (ap remainder_of k.is)
+
+pub known : (θ : Float) (x : ℕ) → Some x ≡ remainder_of θ → Known θ x
+unfolding reduced absolute
+known nan x h = absurd (none-some _ (sym h))
+known (inf s) x h = absurd (none-some _ (sym h))
+known (fin s m e) x h = record { s = s; m = m; e = e; is = refl; value = same_Some _ _ h; most = reduced_most false m e }
+
 absolute_fits : (θ : Float) → T (fits binary64 θ) → T (fits binary64 (absolute θ))
 unfolding absolute
 absolute_fits nan f = f
 absolute_fits (inf s) f = unfold fits in tt
 absolute_fits (fin s m e) f = fits_unsigned binary64 s m e f
 
--- an angle beyond one turn is not below 2 ^ -16
-beyond_small : (θ : Float) → lt (absolute θ) two_pi ≡ false → lt (absolute θ) two_to_minus16 ≡ false
-unfolding lt of_bits absolute
-beyond_small nan h = refl
-beyond_small (inf s) h = refl
-beyond_small (fin s m e) h =
-    is_false (ltb (m * up e * 2 ^ 16) (1 * 1 * down e))
-    (not_T (ltb (m * up e * 2 ^ 16) (1 * 1 * down e)) (λ (t : T (ltb (m * up e * 2 ^ 16) (1 * 1 * down e))). none (m * up e) (down e) (ltb→lt (m * up e * 2 ^ 16) (1 * 1 * down e) t) (nltb→le (m * up e * 2 ^ 47) (turns * 1 * down e) (no h))))
-  where
-    none : (a d : ℕ) → a * 2 ^ 16 < 1 * 1 * d → turns * 1 * d ≤ a * 2 ^ 47 → ⊥
-    none a d f g = omega arith
-
--- a test that is turned round
-pub not_so : (b : Bool) → not b ≡ true → b ≡ false
-not_so true h = absurd (true≢false (sym h))
-not_so false h = refl
-
-pub so : (b : Bool) → not b ≡ false → b ≡ true
-so true h = refl
-so false h = absurd (true≢false h)
-
 module _ (θ a : Float) (ea : a ≡ absolute θ) where
-  pub not_small : lt a two_pi ≡ false → lt (absolute θ) two_to_minus16 ≡ false
-  not_small h = beyond_small θ (subst (λ (z : Float). lt z two_pi ≡ false) ea h)
-
   -- within one turn
   pub near_requires : lt a two_pi ≡ true → Fixable a
   near_requires h = subst Fixable (sym ea) (within_fixable (absolute θ) (under_turn θ is).from (yes is))
@@ -218,8 +206,8 @@ sine_promise θ = record { undefined = none θ; near = sine_everywhere θ; small
     none (inf s) h = unfold sine in refl
     none (fin s m e) h = absurd h
 
-pub sine_is : (θ v : Float) → v ≡ sine θ → (v ≡ sine θ) × SinePromise θ v
-sine_is θ v q = (q, subst (SinePromise θ) (sym q) (sine_promise θ))
+pub sine_promised : (θ v : Float) → v ≡ sine θ → SinePromise θ v
+sine_promised θ v q = subst (SinePromise θ) (sym q) (sine_promise θ)
 
 cosine_promise : (θ : Float) → CosinePromise θ (cosine θ)
 cosine_promise θ = record { undefined = none θ; near = cosine_everywhere θ; zero = cosine_zero θ; even = cosine_even θ }
@@ -229,5 +217,5 @@ cosine_promise θ = record { undefined = none θ; near = cosine_everywhere θ; z
     none (inf s) h = unfold cosine in refl
     none (fin s m e) h = absurd h
 
-pub cosine_is : (θ v : Float) → v ≡ cosine θ → (v ≡ cosine θ) × CosinePromise θ v
-cosine_is θ v q = (q, subst (CosinePromise θ) (sym q) (cosine_promise θ))
+pub cosine_promised : (θ v : Float) → v ≡ cosine θ → CosinePromise θ v
+cosine_promised θ v q = subst (CosinePromise θ) (sym q) (cosine_promise θ)

@@ -1,16 +1,44 @@
-// Module 2 of the scope: sine and cosine of the exact remainder of an angle by 2π to 160 binary places. Within one turn that is the angle. Each function asks
-// for it by itself, so that the short way stays in line.
+// Module 2 of the scope: sine and cosine of the exact remainder of an angle by 2π to 160 binary places. Within one turn that is the angle.
 #![tactic(auto)]
 
-ghost use Rattle.std.specs.Prelude.{◌≡◌, ◌*◌, ◌^◌, ◌≤◌};
-ghost use Rattle.ieee754.specs.Sign.{signed};
+ghost use Rattle.std.specs.Prelude.{◌≡◌, ◌*◌, ◌^◌, ◌≤◌, cond};
+ghost use Rattle.std.specs.Float.Ieee.{lt};
+ghost use Rattle.std.specs.Float.Ieee.Scale.{finite};
+ghost use Rattle.elementary_reduction.specs.Reduction as Reduction;
+ghost use Rattle.ieee754.specs.Binary64.{two_to_minus16};
+ghost use Rattle.ieee754.specs.Sign.{absolute, signed};
 ghost use Rattle.elementary_sincos.specs.Steps.{sine_series, sine, cosine};
 ghost use Rattle.elementary_sincos.specs.Promise.{SinePromise, CosinePromise};
 
 use elementary_fixed_point::{conversion, product};
 use ieee754::sign;
+use std::f64::consts;
 
 mod series;
+
+// The size of the remainder by one turn, in units of 2^-61; none of an angle that is not finite. Compiled into each of its callers, so that the short way stays
+// in line.
+#[inline(always)]
+fn remainder(theta: f64) -> Option<u64>
+    ensures { result ≡ cond (finite theta) (Some (Reduction.reduced theta)) None }
+{
+    let a = sign::abs(theta);
+    if a < consts::TAU {
+        return Some(conversion::from_f64(a));
+    }
+    if a < f64::INFINITY {
+        return Some(elementary_reduction::reduced(a));
+    }
+    None
+}
+
+// Whether the angle is its own sine.
+#[inline(always)]
+fn is_small(theta: f64) -> bool
+    ensures { result ≡ lt (absolute theta) two_to_minus16 }
+{
+    sign::abs(theta) < 0.0000152587890625
+}
 
 // The sine, or its opposite, of x units of 2^-61.
 fn sine_at(x: u64, negative: bool) -> f64
@@ -22,31 +50,18 @@ fn sine_at(x: u64, negative: bool) -> f64
     series::sine(x, x2, x4, negative)
 }
 
-// The sine of theta. Below 2^-16 in size, and so at a zero, it is theta itself, with its sign. The tests are in the order in which the compiler leaves no jump in
-// the short way.
+// The sine of theta. Below 2^-16 in size, and so at a zero, it is theta itself, with its sign.
 pub fn sin(theta: f64) -> f64
     ensures bits { result ≡ sine theta }
     ensures near { SinePromise theta result }
 {
-    if theta != theta {
+    let Some(x) = remainder(theta) else {
+        return f64::NAN;
+    };
+    if is_small(theta) {
         return theta;
     }
-    let a = sign::abs(theta);
-    let within = a < 6.283185307179586;
-    if !within {
-        if a < 1.0 / 0.0 {
-            let x = elementary_reduction::reduced(a);
-            let negative = theta < 0.0;
-            return sine_at(x, negative);
-        }
-        return 0.0 / 0.0;
-    }
-    if a < 0.0000152587890625 {
-        return theta;
-    }
-    let x = conversion::from_f64(a);
-    let negative = theta < 0.0;
-    sine_at(x, negative)
+    sine_at(x, theta < 0.0)
 }
 
 // The cosine of theta.
@@ -54,18 +69,8 @@ pub fn cos(theta: f64) -> f64
     ensures bits { result ≡ cosine theta }
     ensures near { CosinePromise theta result }
 {
-    if theta != theta {
-        return theta;
-    }
-    let a = sign::abs(theta);
-    let x = if a < 6.283185307179586 {
-        conversion::from_f64(a)
-    } else {
-        if a < 1.0 / 0.0 {
-            elementary_reduction::reduced(a)
-        } else {
-            return 0.0 / 0.0;
-        }
+    let Some(x) = remainder(theta) else {
+        return f64::NAN;
     };
     let x2 = product::high_product(x, x);
     let x4 = product::high_product(x2, x2);
@@ -82,32 +87,20 @@ pub struct SinCos {
 pub fn sin_cos(theta: f64) -> SinCos
     ensures { (result.sin ≡ sine theta) × (result.cos ≡ cosine theta) }
 {
-    if theta != theta {
+    let Some(x) = remainder(theta) else {
         return SinCos {
-            sin: theta,
-            cos: theta,
+            sin: f64::NAN,
+            cos: f64::NAN,
         };
-    }
-    let a = sign::abs(theta);
-    let x = if a < 6.283185307179586 {
-        conversion::from_f64(a)
-    } else {
-        if a < 1.0 / 0.0 {
-            elementary_reduction::reduced(a)
-        } else {
-            return SinCos {
-                sin: 0.0 / 0.0,
-                cos: 0.0 / 0.0,
-            };
-        }
     };
     let x2 = product::high_product(x, x);
     let x4 = product::high_product(x2, x2);
-    let c = series::cosine(x2, x4);
-    if a < 0.0000152587890625 {
-        return SinCos { sin: theta, cos: c };
+    let cos = series::cosine(x2, x4);
+    if is_small(theta) {
+        return SinCos { sin: theta, cos };
     }
-    let negative = theta < 0.0;
-    let s = series::sine(x, x2, x4, negative);
-    SinCos { sin: s, cos: c }
+    SinCos {
+        sin: series::sine(x, x2, x4, theta < 0.0),
+        cos,
+    }
 }

@@ -1,4 +1,5 @@
 // Sine and cosine of k / 4: the f64 nearest to the Taylor sums. A static is read by one load; a const array would be built anew at every use.
+// Begun, and used by nothing yet: the elementary functions by tables are to rest on it (docs/PORT.md, "Unfinished work").
 #![tactic(auto)]
 
 ghost use Rattle.std.specs.Prelude.{◌≡◌, ◌<◌};
@@ -62,6 +63,7 @@ static COSINES: [f64; 26] = [
     0.9994494182244994,
 ];
 
+// Two functions, each one load: one function would take the table as an argument, and promise an entry of either.
 pub fn sine(k: u64) -> f64
     requires { k < 26 }
     ensures { result ≡ sine_entry k }

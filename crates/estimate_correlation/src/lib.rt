@@ -14,8 +14,6 @@ ghost use Rattle.estimate_correlation.specs.Code.RunningSums.{sample_of, row_of,
 use std::array;
 use sums::complex::Complex;
 
-const ZERO: Complex = Complex { re: 0.0, im: 0.0 };
-
 // What is correlated: the samples, or their squares.
 trait Preparation {
     ghost squared: { Bool };
@@ -63,7 +61,7 @@ fn first_window<P: Preparation>(x: &[f32]) -> [Complex; 10]
     requires { 18 ≤ length x.now }
     ensures { Latest (prepared P.squared x.now) 9 result }
 {
-    let mut window = [ZERO; 10];
+    let mut window = [Complex::ZERO; 10];
     let (samples, _) = x.as_chunks::<2>();
     for &[re, im] in &samples[..9] {
         window = slid(&window, P::sample(re, im));
@@ -72,7 +70,7 @@ fn first_window<P: Preparation>(x: &[f32]) -> [Complex; 10]
 }
 
 // Adds the products of lag i and the conjugates of the lags from i on to row i, from its diagonal on.
-// By index: after a `zip` with `iter_mut` the library's contract says nothing of what the row holds.
+// By place: of a loop over `iter_mut` with a `zip` or a `skip` the library says nothing of what the row then holds.
 fn add_to_row(row: &mut [Complex; 10], window: &[Complex; 10], i: usize)
     ensures { (j : ℕ) → i ≤ j → j < 10 → number row.new j ≡ add_c binary64 (number row.old j) (mul_c binary64 (number window.now i) (conj (number window.now j))) }
 {
@@ -147,7 +145,7 @@ pub fn correlation_matrix(x: &[f32], l: usize, squared: bool) -> [[Complex; 10];
     requires { 2 * l + 18 ≤ length x.now }
     ensures { matrix result ≡ correlation_matrix (prepared squared x.now) l }
 {
-    let mut r_xx = [[ZERO; 10]; 10];
+    let mut r_xx = [[Complex::ZERO; 10]; 10];
     if squared {
         add_places::<Squares>(&mut r_xx, x, l);
     } else {

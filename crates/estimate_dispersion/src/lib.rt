@@ -19,7 +19,8 @@ pub fn cancel(f1: f64, f2: f64, d1: f64, d2: f64) -> f64
 }
 
 // The electron content on the way, from the carriers f1 and f2 and their phases. Where a carrier is 0, or the two are within 1e-6 of each
-// other, there is none to tell, and it stays what it was. Not an Option: the scope's definition takes the old content.
+// other, there is none to tell, and it stays what it was. Not an Option: the public definition of a channel's electron content is by
+// this one, which takes the old content.
 pub fn electron_content(f1: f64, f2: f64, theta1: f64, theta2: f64, old: f64) -> f64
     ensures { result ≡ electron_content f1 f2 theta1 theta2 old }
 {

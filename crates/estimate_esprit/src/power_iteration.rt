@@ -11,8 +11,6 @@ ghost use Rattle.estimate_esprit.specs.Code.Vectors.{vector};
 use std::array;
 use sums::complex::Complex;
 
-const ONE: Complex = Complex { re: 1.0, im: 0.0 };
-
 // A row of the matrix times the vector.
 fn row_times(row: &[Complex; 10], u: &[Complex; 10]) -> Complex
     ensures { parts result ≡ sum_to (add_c binary64) (λ j. mul_c binary64 (number row.now j) (number u.now j)) 9 }
@@ -35,7 +33,7 @@ fn norm_of(w: &[Complex; 10]) -> f64
 {
     let mut sum = w[0].norm_sqr();
     for z in &w[1..] {
-        sum = sum + z.norm_sqr();
+        sum += z.norm_sqr();
     }
     ieee754_roots::square_root::sqrt(sum)
 }
@@ -50,7 +48,7 @@ fn divided(w: &[Complex; 10], d: f64) -> [Complex; 10]
 pub fn strongest_vector(r: &[[Complex; 10]; 10], n: usize) -> [Complex; 10]
     ensures { vector result ≡ power_iteration n (matrix r.now) ones }
 {
-    let mut u = [ONE; 10];
+    let mut u = [Complex::ONE; 10];
     for _step in 0..n {
         let w = matrix_times(r, &u);
         let norm = norm_of(&w);

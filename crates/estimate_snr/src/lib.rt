@@ -25,7 +25,7 @@ impl Moments {
         let mut m2 = 0.0;
         let mut m4 = 0.0;
         for &[re, im] in pairs {
-            let power = std::num::f32_to_f64_with_nan(re * re + im * im);
+            let power = f64::from(re * re + im * im);
             m2 += power;
             m4 += power * power;
         }

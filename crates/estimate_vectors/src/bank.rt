@@ -3,8 +3,9 @@ ghost use Rattle.std.specs.Prelude.{◌≡◌};
 ghost use Rattle.estimate_vectors.specs.Code.Bank.{scale_of, states_place, offset_of, frequency_from, electrons_from, bank_agrees};
 
 use estimate_dispersion::{cancel, electron_content};
-use vectors::line::{Word, ends, rest, stands};
+use vectors::line::{Word, rest, strip};
 
+// Of the number that a line has of a modulation. Not that of tracker_readings, which stands above the tracker: this program looks at the estimates alone.
 #[tactic(auto, using(std::proofs::lemmas::Bool::Decides::nat_tests), unfolding(crate::specs::Code::Bank::scale_of))]
 fn scale_of(modulation: u64) -> f64
     ensures { result ≡ scale_of modulation }
@@ -12,7 +13,7 @@ fn scale_of(modulation: u64) -> f64
     if modulation == 1 { 2.0 } else { 1.0 }
 }
 
-// Where the states of the bank's tracker k begin.
+// Where the states of the bank's tracker k begin; k is a number of the line, and any above 1 is the third.
 #[tactic(auto, using(std::proofs::lemmas::Bool::Decides::nat_tests), unfolding(crate::specs::Code::Bank::states_place))]
 fn states_place(k: u64) -> usize
     ensures { result ≡ states_place k }
@@ -53,16 +54,16 @@ fn electrons_in(words: &[u64], x: &[u64]) -> f64
 }
 
 // Both are those of the tracker in use after the block. Nothing is compared where the channel has not two frequencies, or is not locked after the
-// block.
-#[tactic(auto, unfolding(crate::specs::Code::Bank::bank_agrees, crate::specs::Code::Bank::bank_words))]
+// block. Behind them stands the answer's metric.
+#[tactic(auto, unfolding(crate::specs::Code::Bank::bank_agrees, crate::specs::Code::Bank::bank_words, vectors::specs::Code::Lines::ends_at))]
 pub fn bank_agrees(words: &[u64]) -> bool
     ensures { result ≡ bank_agrees words.now }
 {
     if !(bool::at(words, 2) && bool::at(words, 48)) {
-        return ends(words, 53);
+        return words.len() == 53;
     }
     let x = rest(words, states_place(u64::at(words, 42)));
     let frequency = frequency_in(scale_of(u64::at(words, 1)), words, x);
     let answer = [frequency, electrons_in(words, x)];
-    ends(words, 53) & stands(words, 50, &answer)
+    words.len() == 53 && strip(rest(words, 50), &answer).is_some()
 }

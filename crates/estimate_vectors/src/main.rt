@@ -7,41 +7,40 @@
 mod bank;
 
 ghost use Rattle.std.specs.Prelude.{◌≡◌};
-ghost use Rattle.estimate_vectors.specs.Code.Lines.{estimate_agrees, snr_agrees, cancel_agrees, kind_agrees, line_agrees};
+ghost use Rattle.estimate_vectors.specs.Code.Lines.{estimate_agrees, snr_agrees, cancel_agrees, line_agrees};
 
+use crate::bank::bank_agrees;
 use estimate_dispersion::cancel;
 use estimate_esprit::estimate_frequency_esprit;
 use estimate_snr::estimate_snr;
-use vectors::line::{Word, ends, listed_at, stands};
+use vectors::line::{Word, is_rest, list_in, rest};
 
 // The longest list.
 const LONGEST: usize = 8192;
 
-// Whether the port's frequency of the line's n samples stands behind them.
+// Whether behind the samples stands the port's frequency of them, at the line's end.
 #[tactic(auto, using(std::proofs::lemmas::Bool::Decides::nat_tests), unfolding(crate::specs::Code::Lines::estimate_agrees, crate::specs::Code::Lines::frequency_word))]
-fn estimate_agrees(words: &[u64], squared: bool, n: u64) -> bool
-    ensures { result ≡ estimate_agrees squared n words.now }
+fn estimate_agrees(words: &[u64], squared: bool) -> bool
+    ensures { result ≡ estimate_agrees squared words.now }
 {
     let mut memory = [0.0f32; LONGEST];
-    let Some(list) = listed_at(words, 3, n, &mut memory) else {
+    let Some((list, left)) = list_in(rest(words, 2), &mut memory) else {
         return false;
     };
-    let k = 3 + list.len();
     let answer = estimate_frequency_esprit(list, squared, f64::at(words, 1));
-    stands(words, k, &[answer]) & ends(words, k + 1)
+    is_rest(left, &[answer])
 }
 
 // The same of the port's signal-to-noise ratio.
 #[tactic(auto, using(std::proofs::lemmas::Bool::Decides::nat_tests), unfolding(crate::specs::Code::Lines::snr_agrees, crate::specs::Code::Lines::ratio_word))]
-fn snr_agrees(words: &[u64], n: u64) -> bool
-    ensures { result ≡ snr_agrees n words.now }
+fn snr_agrees(words: &[u64]) -> bool
+    ensures { result ≡ snr_agrees words.now }
 {
     let mut memory = [0.0f32; LONGEST];
-    let Some(list) = listed_at(words, 2, n, &mut memory) else {
+    let Some((list, left)) = list_in(rest(words, 1), &mut memory) else {
         return false;
     };
-    let k = 2 + list.len();
-    stands(words, k, &[estimate_snr(list)]) & ends(words, k + 1)
+    is_rest(left, &[estimate_snr(list)])
 }
 
 #[tactic(auto, unfolding(crate::specs::Code::Lines::cancel_agrees))]
@@ -52,29 +51,22 @@ fn cancel_agrees(words: &[u64]) -> bool
     let f2 = f64::at(words, 2);
     let d1 = f64::at(words, 3);
     let d2 = f64::at(words, 4);
-    stands(words, 5, &[cancel(f1, f2, d1, d2)]) & ends(words, 6)
+    is_rest(rest(words, 5), &[cancel(f1, f2, d1, d2)])
 }
 
-// The kinds are those of reference/README.md.
-#[tactic(auto, using(std::proofs::lemmas::Bool::Decides::nat_tests), unfolding(crate::specs::Code::Lines::kind_agrees))]
-fn kind_agrees(kind: u64, words: &[u64]) -> bool
-    ensures { result ≡ kind_agrees kind words.now }
-{
-    match kind {
-        5 => estimate_agrees(words, false, u64::at(words, 2)),
-        6 => snr_agrees(words, u64::at(words, 1)),
-        11 => bank::bank_agrees(words),
-        12 => cancel_agrees(words),
-        13 => estimate_agrees(words, true, u64::at(words, 2)),
-        _ => false,
-    }
-}
-
-#[tactic(auto, unfolding(crate::specs::Code::Lines::line_agrees))]
+// Numbers and not an enum: each kind of reference/README.md stands once, beside what has its name.
+#[tactic(auto, using(std::proofs::lemmas::Bool::Decides::nat_tests), unfolding(crate::specs::Code::Lines::line_agrees, crate::specs::Code::Lines::kind_agrees))]
 fn agrees(words: &[u64]) -> bool
     ensures { result ≡ line_agrees words.now }
 {
-    kind_agrees(u64::at(words, 0), words)
+    match u64::at(words, 0) {
+        5 => estimate_agrees(words, false),
+        6 => snr_agrees(words),
+        11 => bank_agrees(words),
+        12 => cancel_agrees(words),
+        13 => estimate_agrees(words, true),
+        _ => false,
+    }
 }
 
 fn main() {

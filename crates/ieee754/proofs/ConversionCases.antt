@@ -330,9 +330,6 @@ module _ (m s : ℕ) (S : 0 < s) (H : s < 64) where
   abbrev u : ℕ
   u = 1 * 2 ^ s % 2 ^ 64
 
-  pub unit_pos : 0 < u
-  unit_pos = subst (λ (z : ℕ). 0 < z) (sym (unit_is s H)) (pow_pos s)
-
   c : Cmp (compare (m % 2 ^ s * 2) (2 ^ s)) (m % 2 ^ s * 2) (2 ^ s)
   c = cmp (m % 2 ^ s * 2) (2 ^ s)
 

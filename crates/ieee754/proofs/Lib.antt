@@ -6,9 +6,7 @@ pub mod LeadingZeros
 pub mod UnitPatterns
 pub mod SquareRootCases
 pub mod NearestRoot
-pub mod SignCases
 pub mod SizeBits
-pub mod TruncationCases
 pub mod RoundAwayCases
 pub mod ConversionCases
 pub mod WideningCases

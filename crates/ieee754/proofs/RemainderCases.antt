@@ -1,16 +1,12 @@
 -- The remainder of any two f64, by the tests of the code: where it is the number itself, where there is one to be found, and where there is none. Assumes nothing.
 use Rattle.std.proofs.Common.{◌≡◌, ℕ, ◌*◌, ◌%◌, ◌<◌, ◌≤◌, true, false, T, cond, eqb, sym, refl, ltb→lt, nltb→le, true≢false, arith}
-use lib.Ieee.{Float, nan, inf, fin, binary64, fits, lt, rem, up, down, div, of_bits, round}
+use lib.Ieee.{Float, nan, inf, fin, binary64, fits, lt, rem, up, down, round}
 use lib.Ieee.Fits.{up_pos}
 use lib.Ieee.Positive.{num, den}
 use lib.Ieee.Scale.{finite}
 use Rattle.ieee754.specs.Sign.{absolute, plus_zero}
 use Rattle.ieee754.proofs.Fields.{yes, no}
 use Rattle.ieee754.proofs.SmallRemainder.{rem_below}
-
-pub infinite : div binary64 (of_bits binary64 4607182418800017408) (of_bits binary64 0) ≡ inf false
-unfolding div of_bits
-infinite = refl
 
 -- a number that is smaller in size
 pub less : (x y : Float) → T (fits binary64 x) → lt (absolute x) (absolute y) ≡ true → x ≡ rem binary64 x y

@@ -6,6 +6,7 @@ ghost use Rattle.ieee754.specs.Conversion.{convert};
 ghost use Rattle.ieee754.specs.Code.Quotients.{nearest_quotient, rounding_carry};
 
 // What rounding to nearest, ties to even, adds to a quotient q with the remainder rest, for a divisor twice half.
+#[tactic(auto, unfolding(crate::specs::Code::Quotients::rounding_carry))]
 fn rounding_carry(q: u64, rest: u64, half: u64) -> u64
     ensures { result ≡ rounding_carry q rest half }
 {
@@ -38,6 +39,7 @@ fn narrow_bits(a: u64) -> u64
     if a >= 0x47f0_0000_0000_0000 {
         return 0x7f80_0000;
     }
+    // The exponent's field and the significand, by two expressions: `places` and `digits` of the remainder have a case for a subnormal besides, which was sorted out above.
     let e = a / 0x10_0000_0000_0000;
     if e < 872 {
         return 0;
@@ -52,11 +54,12 @@ fn narrow_bits(a: u64) -> u64
 // x as an f32: the nearest one, of two as near the even one, an infinity from halfway past the largest on, and a NaN for a NaN. No subnormal
 // significand is normalised here: every subnormal f64 rounds to zero.
 // Not the library's `nearest_f64_to_f32_with_nan`, which takes half as long again.
+#[tactic(auto, using(crate::proofs::Fields::no_nan_plain))]
 pub fn f64_to_f32(x: f64) -> f32
     ensures { result ≡ convert binary32 x }
 {
-    if x != x {
-        return 0.0 / 0.0;
+    if x.is_nan() {
+        return f32::NAN;
     }
     let b: u64 = f64::to_bits(x);
     let r = narrow_bits(b % 0x8000_0000_0000_0000);
@@ -81,16 +84,17 @@ fn widen_bits(a: u64) -> u64
 
 // x as an f64, which holds every f32; a NaN passes. What has its leading one already is the hardware's to convert.
 // Not the library's conversion, which is the hardware's for all: the scope has a subnormal significand shifted up by its leading zeros.
+#[tactic(auto, using(crate::proofs::Fields::no_nan_plain))]
 pub fn f32_to_f64(x: f32) -> f64
     ensures { result ≡ x }
 {
-    if x != x {
-        return 0.0 / 0.0;
+    if x.is_nan() {
+        return f64::NAN;
     }
     let b: u32 = f32::to_bits(x);
     let a = b % 0x8000_0000;
     if a >= 0x80_0000 {
-        return x as f64;
+        return f64::from(x);
     }
     let r = widen_bits(a as u64);
     if b < 0x8000_0000 {

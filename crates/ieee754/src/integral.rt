@@ -30,7 +30,7 @@ fn whole_away(a: u64) -> u64
 pub fn round(x: f64) -> f64
     ensures { result ≡ rounded_away binary64 x }
 {
-    if x != x {
+    if x.is_nan() {
         return x;
     }
     let b: u64 = f64::to_bits(x);

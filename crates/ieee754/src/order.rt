@@ -7,7 +7,7 @@ ghost use Rattle.ieee754.specs.Order.{maximum, clamped};
 pub fn max(x: f64, y: f64) -> f64
     ensures { result ≡ maximum x y }
 {
-    if x != x {
+    if x.is_nan() {
         return y;
     }
     if x < y {

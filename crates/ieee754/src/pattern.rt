@@ -1,5 +1,5 @@
 // Bit patterns. Every NaN pattern is read as the one NaN, which is written as the pattern with the sign clear and only the highest digit
-// set: 7ff8000000000000, or 7fc00000.
+// set: 7ff8000000000000, or 7fc00000. A function for each width: each is one call of the library, and a trait over the two widths would be longer than the four.
 ghost use Rattle.std.specs.Prelude.{◌≡◌, from_bits, to_bits};
 ghost use Rattle.std.specs.Float.{binary32, binary64};
 

@@ -60,6 +60,7 @@ fn pattern_of(r: u64, i: u64) -> u64
 }
 
 // The remainder of finite numbers, the divisor being no larger in size and not 0.
+#[tactic(auto, using(crate::proofs::Fields::no_nan_plain))]
 fn finite_remainder(x: f64, y: f64) -> f64
     requires { T (finite x) × T (finite y) × (0 < num y) × (num y * den x ≤ num x * den y) }
     ensures { result ≡ rem binary64 x y }
@@ -71,6 +72,7 @@ fn finite_remainder(x: f64, y: f64) -> f64
     let i = places(c);
     let r = rest_of(digits(a), places(a) - i, digits(c));
     let p = pattern_of(r, i);
+    // The sign is put back here, in both conversions and in `round`, each time for another pair of widths, or by a minus: one function would serve two of the four at most.
     if b < 0x8000_0000_0000_0000 {
         return f64::from_bits(p);
     }
@@ -86,15 +88,16 @@ fn remainder(x: f64, y: f64) -> f64
     if size < divisor {
         return x;
     }
-    if size < 1.0 / 0.0 {
+    if size < f64::INFINITY {
         if 0.0 < divisor {
             return finite_remainder(x, y);
         }
     }
-    0.0 / 0.0
+    f64::NAN
 }
 
 // The remainder that is not negative, but for rounding: |y| is added where it is negative.
+#[tactic(auto, unfolding(crate::specs::Remainder::rem_euclid))]
 pub fn rem_euclid(x: f64, y: f64) -> f64
     ensures { result ≡ rem_euclid binary64 x y }
 {

@@ -1,5 +1,5 @@
 -- The nearest root by the whole one, and the arithmetic of the check of a guess. Assumes nothing.
-use Rattle.std.proofs.Common.{◌≡◌, ℕ, zero, suc, ◌+◌, ◌*◌, ◌/◌, ◌%◌, ◌^◌, ◌<◌, ◌≤◌, Bool, true, false, ltb, ◌⊎◌, refl, ap, subst, inl, inr, mul-le-mul, arith, lit≤, le-ltb, lt-ltb}
+use Rattle.std.proofs.Common.{◌≡◌, ℕ, zero, suc, ◌+◌, ◌*◌, ◌/◌, ◌%◌, ◌<◌, ◌≤◌, ltb, ◌⊎◌, refl, ap, subst, inl, inr, arith, le-ltb, lt-ltb}
 use mir.Val.{bool_byte}
 use Rattle.ieee754_rounding.proofs.Comparison.{lt_or_le}
 use Rattle.ieee754.specs.Code.WholeRoot.{NearestRoot}
@@ -43,19 +43,6 @@ pub excess_is : (m a b q H Y X : ℕ) → q ≡ a * 67108864 + b → H + a * a �
 excess_is m a b q H Y X eq eh ey ex =
     let s : q * q ≡ (a * 67108864 + b) * (a * 67108864 + b) = ap (λ (z : ℕ). z * z) eq in
     omega arith
-
-pub half_square_lem : (a : ℕ) → a ≤ 268435456 → a * a ≤ 72057594037927936
-half_square_lem a h = mul-le-mul h h
-
-byte_small : (b : Bool) → bool_byte b ≤ 1
-byte_small false = lit≤ tt
-byte_small true = lit≤ tt
-
-pub one_fits : (q : ℕ) (b : Bool) → q < 2 ^ 53 → q + bool_byte b < 2 ^ 64
-one_fits q b h = let k = byte_small b in omega arith
-
-pub two_fit : (q : ℕ) (b c : Bool) → q < 2 ^ 53 → q + bool_byte b + bool_byte c < 2 ^ 64
-two_fit q b c h = let k = byte_small b in let l = byte_small c in omega arith
 
 -- the nearest root by what q * q falls short of M by
 as_guessed : (M q x : ℕ) → 0 < M → q * q + x ≡ M → x ≤ q → NearestRoot M (q + 0 + 0)

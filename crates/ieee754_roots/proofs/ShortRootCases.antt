@@ -9,7 +9,7 @@ use Rattle.ieee754.specs.Code.Quotients.{nearest_quotient}
 use Rattle.ieee754.specs.Code.WholeRoot.{NearestRoot}
 use Rattle.ieee754.proofs.Fields.{yes}
 use Rattle.ieee754.proofs.IntegerRoot.{near_lo, near_hi, some_root}
-use Rattle.ieee754.proofs.SquareRootCases.{doubled, scaled, M-lo, M-hi, root_fits, root_pattern, when_normal}
+use Rattle.ieee754.proofs.SquareRootCases.{scaled, M-lo, M-hi, root_fits, root_pattern, when_normal}
 use Rattle.ieee754.proofs.ConversionCases.{narrow_normal, rounded_lt, rounded_gt}
 
 -- ---- the rounding of a whole number that lies between the halfway marks of d
@@ -139,8 +139,6 @@ module _ (m p d : ℕ) (lo : 2 ^ 52 ≤ m) (hi : m < 2 ^ 53) (P : 1792 ≤ p) (Q
       ]
 
 -- ---- of an x that the format holds, by its pattern: its significand, doubled for an odd exponent, and the result's pattern
-pub doubled_lt : (b : ℕ) → b < 0x4fd0_0000_0000_0000 → (b % 2 ^ 52 + 2 ^ 52) * ((b / 2 ^ 52 + 1021) % 2 + 1) < 2 ^ 54
-doubled_lt b h = (doubled (b % 2 ^ 52 + 2 ^ 52) (b / 2 ^ 52 + 1021) (omega arith) (omega arith) (omega arith)).1
 
 pub pattern_le : (b d : ℕ) → b < 0x4fd0_0000_0000_0000 → d ≤ 2 ^ 24 → ((b / 2 ^ 52 + 1021) / 2 - 896) * 2 ^ 23 + d ≤ 0x7f80_0000
 pattern_le b d h k = omega arith

@@ -10,7 +10,8 @@ pub struct Estimate {
 }
 
 impl Estimate {
-    // The start at the number x, from half of its pattern: four digits are right.
+    // The start at the number x, from half of its pattern: four digits are right. What is asked of the pattern is asked of the three who read it: they take it apart at
+    // once, and a type for it would have its number taken out there.
     pub fn start(x: f64, bits: u64) -> Estimate
         requires { bits ≤ 0x7ff0_0000_0000_0000 }
         ensures { result ≡ start_at x bits }

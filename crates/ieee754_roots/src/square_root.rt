@@ -104,6 +104,7 @@ fn nearest_root(m: u64, q: u64) -> u64
 
 // A guess at the root, in units of 2 ^ -52 and less one of them, of the float from 1 to 4 with the pattern bits. Three steps and
 // a last correction make of the four digits of the start all but the last. Nothing is claimed of it.
+#[tactic(auto, using(ieee754::proofs::Fields::no_nan_plain))]
 fn guess(bits: u64) -> u64
     requires { bits ≤ 0x7ff0_0000_0000_0000 }
 {
@@ -127,10 +128,11 @@ fn root_bits(m: u64, p: u64) -> u64
 }
 
 // The square root. A subnormal significand is first shifted up past its leading zeros.
+#[tactic(auto, using(ieee754::proofs::Fields::no_nan_plain))]
 pub fn sqrt(x: f64) -> f64
     ensures { result ≡ sqrt binary64 x }
 {
-    if x != x {
+    if x.is_nan() {
         return x;
     }
     let b: u64 = f64::to_bits(x);
@@ -141,7 +143,7 @@ pub fn sqrt(x: f64) -> f64
         return x;
     }
     if b > 0x8000_0000_0000_0000 {
-        return 0.0 / 0.0;
+        return f64::NAN;
     }
     if b >= 0x7ff0_0000_0000_0000 {
         return x;

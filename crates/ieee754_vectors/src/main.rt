@@ -3,7 +3,7 @@
 #![tactic(auto)]
 
 ghost use Rattle.std.specs.Prelude.{◌≡◌};
-ghost use Rattle.ieee754_vectors.specs.Code.Lines.{of_one, of_more, line_agrees};
+ghost use Rattle.ieee754_vectors.specs.Code.Lines.{answer, line_agrees};
 
 use ieee754::conversion::{f32_to_f64, f64_to_f32, u64_to_f64};
 use ieee754::integral::{round, to_usize};
@@ -15,53 +15,48 @@ use ieee754_roots::square_root::sqrt;
 use vectors::line::Word;
 use vectors::output::Stdout;
 use vectors::tally::Tally;
-use vectors::word_at;
+use vectors::word_of;
 
-// The result of an operation with one argument.
-// Letters and not an enum: each letter stands once, beside what it does, and any other one is the absolute value.
-#[tactic(auto, using(std::proofs::lemmas::Bool::Decides::nat_tests), unfolding(crate::specs::Code::Lines::of_one))]
-fn of_one(op: u8, a: u64) -> u64
-    ensures { result ≡ of_one op a }
+// The result of an operation; none of a letter that stands for no operation. Letters and not an enum: each stands once, beside what it does.
+#[tactic(auto, using(std::proofs::lemmas::Bool::Decides::nat_tests), unfolding(crate::specs::Code::Lines::answer))]
+fn answer(letter: u8, a: u64, b: u64, c: u64) -> Option<u64>
+    ensures { result ≡ answer letter a b c }
 {
     let x = f64::of_pattern(a);
-    match op {
+    let y = f64::of_pattern(b);
+    let result = match letter {
         b's' => sqrt(x).pattern(),
         b'n' => f64_to_f32(x).pattern(),
         b'w' => f32_to_f64(f32::of_pattern(a)).pattern(),
         b'u' => u64_to_f64(a).pattern(),
         b'r' => round(x).pattern(),
         b't' => to_usize(x).pattern(),
-        _ => abs(x).pattern(),
-    }
-}
-
-// The result of any.
-#[tactic(auto, using(std::proofs::lemmas::Bool::Decides::nat_tests), unfolding(crate::specs::Code::Lines::of_more))]
-fn of_more(op: u8, a: u64, b: u64, c: u64) -> u64
-    ensures { result ≡ of_more op a b c }
-{
-    let x = f64::of_pattern(a);
-    let y = f64::of_pattern(b);
-    match op {
         b'h' => hypot(x, y).pattern(),
         b'g' => hypotf(f32::of_pattern(a), f32::of_pattern(b)).pattern(),
         b'e' => rem_euclid(x, y).pattern(),
         b'm' => max(x, y).pattern(),
         b'c' => clamp(x, y, f64::of_pattern(c)).pattern(),
-        _ => of_one(op, a),
-    }
+        b'a' => abs(x).pattern(),
+        _ => return None,
+    };
+    Some(result)
 }
 
-#[tactic(auto, unfolding(crate::specs::Code::Lines::line_agrees))]
+#[tactic(auto, unfolding(crate::specs::Code::Lines::line_agrees, crate::specs::Code::Lines::is_answer, sequences::specs::Stretches::stretch))]
 fn agrees(line: &[u8; 70]) -> bool
     ensures { result ≡ line_agrees line.now }
 {
-    let a = word_at(line, 2);
-    let b = word_at(line, 19);
-    let c = word_at(line, 36);
-    of_more(line[0], a, b, c) == word_at(line, 53)
+    let a = word_of(&line[2..18]);
+    let b = word_of(&line[19..35]);
+    let c = word_of(&line[36..52]);
+    match answer(line[0], a, b, c) {
+        Some(result) => result == word_of(&line[53..69]),
+        None => false,
+    }
 }
 
+// No input has as many lines as the bound, which is there so that the loop is seen to end. Not `vectors::replay`: a line is text of one length here,
+// and of one that differs the text is written and not its number, so that little of the loop would be left between two closures.
 fn main() {
     let mut line = [0; 70];
     let mut t = Tally::default();

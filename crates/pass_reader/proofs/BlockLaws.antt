@@ -8,7 +8,7 @@ use native.Mathlib.Numerals.{add-one}
 use native.Mathlib.Omega.{arith}
 use lib.Dec.{eqb, leb, ltb}
 use lib.ListN.{length, get_or, take, drop, set, take-append-drop, length-map}
-use lib.Seq.{drop-cons, drop-drop, take-suc, take-suc-set, take-length, length-take-le, set_at, append_snoc}
+use lib.Seq.{drop-cons, drop-drop, take-suc, take-suc-set, take-length, take_all, length-take-le, set_at, append_snoc}
 use lib.Ieee.{Float, nan, binary32, of_bits}
 use borrow.Author.Tests.{ne_eqb, eqb-true, leb-true, ltb-true, ltb-false}
 use Rattle.sequences.specs.Folds.{every}
@@ -16,20 +16,20 @@ use Rattle.pass_reader.specs.Bytes.{bytes, same, fields, space}
 use Rattle.pass_reader.specs.Numbers.{digit_value, is_digit, number_of, decimal_of}
 use Rattle.pass_reader.specs.Lines.{bits_of, whole_pairs, samples_of, two_fields}
 use Rattle.pass_reader.specs.Code.Places.{place}
-use Rattle.pass_reader.specs.Code.Answers.{read_into}
-use Rattle.pass_reader.proofs.Tests.{and_left, and_right}
-use Rattle.pass_reader.proofs.ByteLaws.{same_eq, fields_last, fields_more, some_field, place_within, tail_is}
+use Rattle.pass_reader.specs.Code.Answers.{read_into, samples_into}
+use Rattle.std.proofs.lemmas.Bool.{and_parts}
+use Rattle.pass_reader.proofs.ByteLaws.{same_eq, fields_last, fields_more, some_field, place_within}
 use Rattle.pass_reader.proofs.NumberLaws.{number_digits, no_number}
 
 -- whole pairs
 module _ (t : List ℕ) (e : whole_pairs t ≡ true) where
   pub whole_groups : 8 * (length t / 8) ≡ length t
   unfolding whole_pairs
-  whole_groups = let z : length t % 16 ≡ 0 = eqb-true _ _ (and_left (eqb (length t % 16) 0) _ (and_left (eqb (length t % 16) 0 && leb (16 * 1) (length t)) _ e)) in omega arith
+  whole_groups = let z : length t % 16 ≡ 0 = eqb-true _ _ (and_parts (eqb (length t % 16) 0) _ (and_parts (eqb (length t % 16) 0 && leb (16 * 1) (length t)) _ e).0).0 in omega arith
 
   pub few_groups : length t / 8 ≤ 4096
   unfolding whole_pairs
-  few_groups = let z : length t ≤ 16 * 2048 = leb-true _ _ (and_right (eqb (length t % 16) 0 && leb (16 * 1) (length t)) _ e) in omega arith
+  few_groups = let z : length t ≤ 16 * 2048 = leb-true _ _ (and_parts (eqb (length t % 16) 0 && leb (16 * 1) (length t)) _ e).1 in omega arith
 
 -- groups of eight digits
 every_append : (p : ℕ → Bool) (a b : List ℕ) → every p (a ++ b) ≡ (every p a && every p b)
@@ -47,9 +47,6 @@ length_bits zero t = refl
 length_bits (suc n) t = ap suc (length_bits n (drop 8 t))
 
 module _ (t : List ℕ) (i : ℕ) where
-  group : List ℕ
-  group = take 8 (drop (8 * i) t)
-
   split : every (is_digit 16) (drop (8 * i) t) ≡ (every (is_digit 16) (take 8 (drop (8 * i) t)) && every (is_digit 16) (drop (8 * (i + 1)) t))
   split =
       let b : 8 * (i + 1) ≡ 8 * i + 8 = omega arith in
@@ -78,12 +75,11 @@ module _ (t : List ℕ) (i : ℕ) where
 pub bits_start : (n : ℕ) (t : List ℕ) → bits_of n t ≡ bits_of (n - 0) t
 bits_start n t = let e : n - 0 ≡ n = omega arith in rw e
 
-pub bits_end : (n i : ℕ) (t bits : List ℕ) → i ≤ n → n ≤ i → bits_of n t ≡ take i bits ++ bits_of (n - i) (drop (8 * i) t) → take n bits ≡ bits_of n t
+pub bits_end : (n i : ℕ) (t bits : List ℕ) → length bits ≡ n → i ≤ n → n ≤ i → bits_of n t ≡ take i bits ++ bits_of (n - i) (drop (8 * i) t) → bits ≡ bits_of n t
 unfolding bits_of
-bits_end n i t bits h k d =
+bits_end n i t bits l h k d =
     let a : n - i ≡ 0 = omega arith in
-    let b : i ≡ n = omega arith in
-    sym (d ∙ rw (a, append-nil, b))
+    sym (d ∙ rw (a, append-nil) (take_all i bits (omega arith)))
 
 -- components laid over the front of a buffer
 pub laid_more : (bits : List ℕ) (old : List Float) (i : ℕ) → i < length bits → i < length old
@@ -106,25 +102,12 @@ abbrev pub both : Option ℕ → Option (List Float) → Option (ℕ × List Flo
 both o s = option_and_then (λ flag. option_map (λ l. (flag, l)) s) o
 
 -- what samples say
-module _ (flag : ℕ) (t : List ℕ) (old : List Float) where
-  pub dash_said : same t dash ≡ true → (Some (flag, 0), old) ≡ read_into (option_map (λ l. (flag, l)) (samples_of t)) old
-  unfolding read_into samples_of
-  dash_said e = rw e
-
-  pub unpaired_said : same t dash ≡ false → whole_pairs t ≡ false → (None, old) ≡ read_into (option_map (λ l. (flag, l)) (samples_of t)) old
-  unfolding read_into samples_of
-  unpaired_said e w = rw (e, w)
-
-  pub undigit_said : same t dash ≡ false → whole_pairs t ≡ true → every (is_digit 16) t ≡ false
-      → (None, old) ≡ read_into (option_map (λ l. (flag, l)) (samples_of t)) old
-  unfolding read_into samples_of
-  undigit_said e w d = rw (e, w, d)
-
+module _ (t : List ℕ) (old : List Float) where
   pub samples_said : (bits : List ℕ) {new : List Float} → same t dash ≡ false → whole_pairs t ≡ true → every (is_digit 16) t ≡ true
       → bits ≡ bits_of (length t / 8) t
       → new ≡ map (of_bits binary32) bits ++ drop (length bits) old
-      → (Some (flag, length bits), new) ≡ read_into (option_map (λ l. (flag, l)) (samples_of t)) old
-  unfolding read_into samples_of
+      → (Some (length bits), new) ≡ samples_into (samples_of t) old
+  unfolding samples_into samples_of
   samples_said bits {new} e w d b n =
       let l : length (map (of_bits binary32) (bits_of (length t / 8) t)) ≡ length t / 8 = length-map (bits_of (length t / 8) t) (of_bits binary32) ∙ length_bits (length t / 8) t in
       rw (e, w, d, l, n, b, length_bits)
@@ -187,6 +170,21 @@ module _ (s : List ℕ) (r : ℕ) (old : List Float) (e : r ≡ place space s) w
   unfolding read_into
   no_flag_said h d = rw (two_fields_lem s (omega arith), ← e, ← d)
 
-  pub two_fields_said : (flag : ℕ) → r < length s → Some flag ≡ decimal_of (take r s)
-      → read_into (option_map (λ l. (flag, l)) (samples_of (take (length s - (r + 1)) (drop (r + 1) s)))) old ≡ read_into (two_fields (fields s)) old
-  two_fields_said flag h d = rw (two_fields_lem s (omega arith), ← e, ← d, tail_is)
+  pub no_samples_said : r < length s → {o : Option ℕ} {new : List Float} → (o, new) ≡ samples_into (samples_of (drop (r + 1) s)) old → o ≡ None
+      → (None, new) ≡ read_into (two_fields (fields s)) old
+  unfolding read_into samples_into
+  no_samples_said h {o} {new} q n = let k = rw n at q in rw (two_fields_lem s (omega arith), ← e) (go (decimal_of (take r s)) (samples_of (drop (r + 1) s)) k)
+    where
+      go : (o : Option ℕ) (p : Option (List Float)) → (None, new) ≡ samples_into p old → (None, new) ≡ read_into (both o p) old
+      go None None k = ap (λ (x : Option ℕ × List Float). (None, x.1)) k
+      go (Some n) None k = ap (λ (x : Option ℕ × List Float). (None, x.1)) k
+      go o (Some l) k = absurd (let q = ap (λ (x : Option ℕ × List Float). x.0) k in let z : ◌≡◌ {A = ℕ} 0 1 = cc in omega arith)
+
+  pub both_said : r < length s → {flag count : ℕ} {o : Option ℕ} {new : List Float} → Some flag ≡ decimal_of (take r s)
+      → (o, new) ≡ samples_into (samples_of (drop (r + 1) s)) old → o ≡ Some count → (Some (flag, count), new) ≡ read_into (two_fields (fields s)) old
+  unfolding read_into samples_into
+  both_said h {flag} {count} {o} {new} d q n = let k = rw n at q in rw (two_fields_lem s (omega arith), ← e, ← d) (go (samples_of (drop (r + 1) s)) k)
+    where
+      go : (p : Option (List Float)) → (Some count, new) ≡ samples_into p old → (Some (flag, count), new) ≡ read_into (both (Some flag) p) old
+      go None k = absurd (let q = ap (λ (x : Option ℕ × List Float). x.0) k in let z : ◌≡◌ {A = ℕ} 0 1 = cc in omega arith)
+      go (Some l) k = ap (λ (x : Option ℕ × List Float). (option_map (λ n. (flag, n)) x.0, x.1)) k

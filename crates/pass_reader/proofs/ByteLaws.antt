@@ -7,15 +7,15 @@ use native.Mathlib.Omega.{arith}
 use lib.Dec.{eqb, ltb}
 use lib.ListN.{length, take, drop, length-drop, drop_of_length-le}
 use lib.Seq.{drop-cons, drop-drop, length-take-le, take_all}
-use borrow.Author.Tests.{eq-eqb, eqb-true, ltb-true, ltb-false}
+use borrow.Author.Tests.{eqb-true, ltb-true, ltb-false}
 use Rattle.pass_reader.specs.Bytes.{newline, same, whole_line, onto, fields, line_fields, space}
 use Rattle.std.specs.List.{position, position_or_len}
 use denote.Ref.{Bor}
-use Rattle.std.specs.Prelude.{Option, Some, None, MatchOption, unwrap_or}
+use Rattle.std.specs.Prelude.{Option, Some, None, MatchOption}
 use Rattle.std.specs.Str.{bytes_eq}
 use Rattle.std.proofs.lemmas.List.Recursion.{is_position_or_len}
 use Rattle.pass_reader.specs.Code.Places.{place}
-use Rattle.pass_reader.proofs.Tests.{and_left, and_right}
+use Rattle.std.proofs.lemmas.Bool.{and_parts}
 
 -- sameness is equality
 pub same_eq : (a b : List ℕ) → same a b ≡ true → a ≡ b
@@ -24,14 +24,9 @@ same_eq [] [] e = refl
 same_eq [] (y ∷ b) e = absurd (let z : ◌≡◌ {A = ℕ} 0 1 = cc in omega arith)
 same_eq (x ∷ a) [] e = absurd (let z : ◌≡◌ {A = ℕ} 0 1 = cc in omega arith)
 same_eq (x ∷ a) (y ∷ b) e =
-    let p : x ≡ y = eqb-true x y (and_left (eqb x y) _ e) in
-    let q : a ≡ b = same_eq a b (and_right (eqb x y) _ e) in
+    let p : x ≡ y = eqb-true x y (and_parts (eqb x y) _ e).0 in
+    let q : a ≡ b = same_eq a b (and_parts (eqb x y) _ e).1 in
     cc
-
-same_refl : (a : List ℕ) → same a a ≡ true
-unfolding same
-same_refl [] = refl
-same_refl (x ∷ a) = rw (eq-eqb x x refl) (same_refl a)
 
 bytes_same : (a b : List ℕ) → bytes_eq a b ≡ same a b
 unfolding same
@@ -68,7 +63,7 @@ place_within b (c ∷ r) = go (eqb c b) (place_within b r)
     go true h = omega arith
     go false h = omega arith
 
-pub place_found : (b : ℕ) (s : List ℕ) → unwrap_or (position (λ x. eqb x b) s) (length s) ≡ place b s
+pub place_found : (b : ℕ) (s : List ℕ) → MatchOption (position (λ x. eqb x b) s) (place b s ≡ length s) (λ n. (n ≡ place b s) × (n < length s))
 unfolding place
 place_found b s =
     let first : place b s ≡ position_or_len (λ x. eqb x b) s = is_position_or_len (place b) (λ x. eqb x b) refl (λ x xs. let one : suc (place b xs) ≡ 1 + place b xs = omega arith in rw one) s in
@@ -76,8 +71,8 @@ place_found b s =
     go (ltb (position_or_len (λ x. eqb x b) s) (length s)) refl first within
   where
     go : (t : Bool) → ltb (position_or_len (λ x. eqb x b) s) (length s) ≡ t → place b s ≡ position_or_len (λ x. eqb x b) s → place b s ≤ length s
-        → unwrap_or (cond t (Some (position_or_len (λ x. eqb x b) s)) None) (length s) ≡ place b s
-    go true e f w = sym f
+        → MatchOption (cond t (Some (position_or_len (λ x. eqb x b) s)) None) (place b s ≡ length s) (λ n. (n ≡ place b s) × (n < length s))
+    go true e f w = (sym f, ltb-true _ _ e)
     go false e f w = let l : length s ≤ position_or_len (λ x. eqb x b) s = ltb-false _ _ e in omega arith
 
 -- the fields of a text with no space, and of one with a space
@@ -134,10 +129,6 @@ tail_is s a = take_all (length s - a) (drop a s) (simp length-drop (omega arith)
 
 pub front_length : (r : ℕ) (l : List ℕ) → r ≤ length l → r ≡ length (take r l)
 front_length r l h = sym (length-take-le r l h)
-
--- a search in `&s[a..]`
-pub found_from : (b : ℕ) (s : List ℕ) (a r : ℕ) → r ≡ place b (take (length s - a) (drop a s)) → a + r ≡ a + place b (drop a s)
-found_from b s a r e = rw (e, tail_is)
 
 -- the fields of a line that has a newline
 pub text_fields : (line text : List ℕ) → (whole_line line ≡ true) × (text ≡ take (length line - 1) line) → fields text ≡ line_fields line

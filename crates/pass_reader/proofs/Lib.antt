@@ -1,5 +1,4 @@
 -- Laws of the form's definitions.
-pub mod Tests
 pub mod ByteLaws
 pub mod NumberLaws
 pub mod ValuesLaws

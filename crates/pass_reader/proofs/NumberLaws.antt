@@ -3,39 +3,17 @@ use mathlib.Core.Path.{◌≡◌, refl, sym, ◌∙◌}
 use mathlib.Core.Bool.{Bool, true, false, cond, ◌&&◌}
 use mathlib.Core.List.{List, [], ◌∷◌}
 use Rattle.std.specs.Prelude.{Some, None}
-use Prim.Native.Nat.{ℕ, suc, ◌+◌, ◌-◌, ◌*◌, ◌^◌, ◌≤◌, ◌<◌}
+use Prim.Native.Nat.{ℕ, suc, ◌+◌, ◌*◌, ◌^◌, ◌≤◌, ◌<◌}
 use native.Mathlib.Numerals.{add-one}
 use native.Mathlib.Nat.{pow-suc, pow-le-pow_right, mul-le-mul, mul-le-mul_right, mul_assoc, pow-succ', pow-zero, mul-one, lt_of_lt_of_le, add-mul}
 use native.Mathlib.Omega.{arith}
 use lib.Dec.{leb}
 use lib.ListN.{length, get_or, drop}
-use borrow.Author.Tests.{lt-ltb, le-ltb, le-leb, lt-leb, ltb-true, leb-true}
+use borrow.Author.Tests.{lt-ltb, le-ltb, ltb-true, leb-true}
 use Rattle.sequences.specs.Folds.{fold, every}
 use Rattle.sequences.proofs.FoldLaws.{fold_end, every_next, every_stop, every_end}
 use Rattle.pass_reader.specs.Numbers.{digit_value, is_digit, digit_behind, number_of, decimal_shape, decimal_of}
-use Rattle.pass_reader.proofs.Tests.{and_left, and_right}
-
--- a digit by comparisons
-module _ (b : ℕ) where
-  pub below_digits : b < 48 → 16 ≡ digit_value b
-  unfolding digit_value
-  below_digits h = rw (lt-leb 48 b h, lt-leb 97 b (omega arith))
-
-  pub decimal_digit : 48 ≤ b → b ≤ 57 → b - 48 ≡ digit_value b
-  unfolding digit_value
-  decimal_digit h k = rw (le-leb 48 b h, le-leb b 57 k)
-
-  pub between_digits : 57 < b → b < 97 → 16 ≡ digit_value b
-  unfolding digit_value
-  between_digits h k = rw (le-leb 48 b (omega arith), lt-leb b 57 h, lt-leb 97 b k)
-
-  pub letter_digit : 97 ≤ b → b ≤ 102 → b - 97 + 10 ≡ digit_value b
-  unfolding digit_value
-  letter_digit h k = rw (le-leb 48 b (omega arith), lt-leb b 57 (omega arith), le-leb 97 b h, le-leb b 102 k)
-
-  pub above_digits : 102 < b → 16 ≡ digit_value b
-  unfolding digit_value
-  above_digits h = rw (le-leb 48 b (omega arith), lt-leb b 57 (omega arith), le-leb 97 b (omega arith), lt-leb b 102 h)
+use Rattle.std.proofs.lemmas.Bool.{and_parts}
 
 -- one digit more of a base up to 16, and up to 12 of them
 pub grown : (base v d i : ℕ) → base ≤ 16 → v < 16 ^ i → d < base → v * base + d < 16 ^ (i + 1)
@@ -92,11 +70,11 @@ value_below : (base : ℕ) (s : List ℕ) (v : ℕ) → every (is_digit base) s 
 unfolding every fold is_digit
 value_below base [] v e = rw (pow-zero, mul-one) (omega arith)
 value_below base (b ∷ r) v e =
-    let h : digit_value b < base = ltb-true _ _ (and_left (is_digit base b) _ e) in
+    let h : digit_value b < base = ltb-true _ _ (and_parts (is_digit base b) _ e).0 in
     let w : (v + 1) * base ≡ v * base + base = add-mul v 1 base ∙ (let z : 1 * base ≡ base = omega arith in rw z) in
     let l : v * base + digit_value b + 1 ≤ (v + 1) * base = omega arith in
     let m : (v * base + digit_value b + 1) * base ^ length r ≤ (v + 1) * base ^ suc (length r) = rw (pow-succ', ← mul_assoc) (mul-le-mul_right (base ^ length r) l) in
-    lt_of_lt_of_le (value_below base r (v * base + digit_value b) (and_right (is_digit base b) _ e)) m
+    lt_of_lt_of_le (value_below base r (v * base + digit_value b) (and_parts (is_digit base b) _ e).1) m
 
 pub number_below : (base : ℕ) (s : List ℕ) (v : ℕ) → Some v ≡ number_of base s → v < base ^ length s
 number_below base s v e =
@@ -108,12 +86,8 @@ number_below base s v e =
 -- the shape of a decimal number
 pub shape_short : (s : List ℕ) → decimal_shape s ≡ true → length s ≤ 12
 unfolding decimal_shape
-shape_short s e = leb-true _ _ (and_right (leb 1 (length s)) _ (and_left (leb 1 (length s) && leb (length s) 12) _ e))
+shape_short s e = leb-true _ _ (and_parts (leb 1 (length s)) _ (and_parts (leb 1 (length s) && leb (length s) 12) _ e).0).1
 
 pub unshaped : (s : List ℕ) → decimal_shape s ≡ false → None ≡ decimal_of s
 unfolding decimal_of
 unshaped s e = rw e
-
-pub shaped : (s : List ℕ) → decimal_shape s ≡ true → number_of 10 s ≡ decimal_of s
-unfolding decimal_of
-shaped s e = rw e

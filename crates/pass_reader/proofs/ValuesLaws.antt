@@ -1,23 +1,22 @@
 -- Laws of the line of values: its fields one after the other, and what nine numbers say.
-use Rattle.std.specs.Prelude.{Option, Some, None, MatchOption, is_some, option_map, option_and_then, slice_range}
+use Rattle.std.specs.Prelude.{Option, Some, None, is_some, option_map, option_and_then}
 use mathlib.Core.Path.{◌≡◌, refl, ap, sym, ◌∙◌}
 use mathlib.Core.Bool.{Bool, true, false, cond, ◌&&◌}
 use mathlib.Core.List.{List, [], ◌∷◌}
-use mathlib.Core.Logic.{◌⊎◌, inl, inr}
-use Prim.Native.Nat.{ℕ, suc, ◌+◌, ◌≤◌, ◌<◌}
+use Prim.Native.Nat.{ℕ, zero, suc, ◌+◌, ◌<◌}
 use native.Mathlib.Numerals.{add-one}
 use native.Mathlib.Omega.{arith}
 use denote.Ref.{Bor}
 use lib.Dec.{leb}
-use lib.ListN.{length, take, drop, length-drop}
-use lib.Seq.{drop-drop, take_all}
-use borrow.Author.Tests.{ne_eqb}
+use lib.ListN.{length, take, drop}
+use borrow.Author.Tests.{ne_eqb, lt-leb}
 use Rattle.pass_reader.specs.Bytes.{fields, space}
 use Rattle.pass_reader.specs.Numbers.{decimal_of}
 use Rattle.pass_reader.specs.Lines.{decimals, nine_values}
 use Rattle.pass_reader.specs.Code.Places.{place}
-use Rattle.pass_reader.specs.Code.Answers.{fields_of, next_decimal, switch, next_switch}
-use Rattle.pass_reader.proofs.ByteLaws.{fields_last, fields_more, some_field, place_within, tail_is}
+use Rattle.pass_reader.specs.declared.values.Values.{Values}
+use Rattle.pass_reader.specs.Code.Answers.{number, values_of, fields_of, next_decimal, switch, next_switch}
+use Rattle.pass_reader.proofs.ByteLaws.{fields_last, fields_more, some_field}
 
 -- a number in front of others, if all are there
 abbrev pub ahead : Option ℕ → Option (List ℕ) → Option (List ℕ)
@@ -31,31 +30,20 @@ pub unequal : (v : List ℕ) → (length v ≡ 9 → ⊥) → None ≡ nine_valu
 unfolding nine_values
 unequal v n = rw (ne_eqb _ _ n)
 
--- the first field, and what `rest.get(1..)` leaves of a text that begins with the space after it
-none_left : (n : ℕ) → (n < 1) ⊎ (n < n) → n < 1
-none_left n (inl h) = h
-none_left n (inr h) = absurd (omega arith)
+-- the first field and those after it, or the one that is left
+module _ (s : List ℕ) where
+  pub first_alone : place space s ≡ length s → (decimal_of s, []) ≡ next_decimal (fields s)
+  unfolding next_decimal
+  first_alone h = rw (fields_last s h)
 
-pub next_field : (s field rest : List ℕ) (e : ℕ) (r : Option (Bor (List ℕ))) → e ≡ place space s → field ≡ take e s → rest ≡ drop e s
-    → MatchOption r ((length rest < 1) ⊎ (length rest < length rest)) (λ x. (1 ≤ length rest) × (length rest ≤ length rest) × (x.now ≡ slice_range rest 1 (length rest)) × (length x.now + 1 ≡ length rest))
-    → (decimal_of field, fields_of r) ≡ next_decimal (fields s)
-unfolding next_decimal
-next_field s field rest e None p f d h =
-    let l = none_left (length rest) h in
-    let n = length-drop e s in
-    let m = ap length d in
-    let w = place_within space s in
-    rw (fields_last s (omega arith), f, take_all e s (omega arith))
-next_field s field rest e (Some x) p f d h =
-    let n = length-drop e s in
-    let m = ap length d in
-    let g : x.now ≡ drop (suc e) s = h.2 ∙ tail_is rest 1 ∙ rw (d, drop-drop 1 e s, add-one) in
-    rw (fields_more s (omega arith), f, g, p)
+  pub first_of_more : {n : ℕ} → n < length s → n ≡ place space s → (decimal_of (take n s), fields (drop (n + 1) s)) ≡ next_decimal (fields s)
+  unfolding next_decimal
+  first_of_more {n} h e = rw (fields_more s (omega arith), e, add-one)
 
 -- FIELDS TAKEN ONE AFTER THE OTHER: a list says of each whether it is a switch.
 
 abbrev kind : Bool → ℕ → Option ℕ
-kind true n = switch n
+kind true n = cond (leb n 1) (Some n) None
 kind false n = Some n
 
 pub taken : List Bool → List (List ℕ) → Option (List ℕ)
@@ -151,6 +139,10 @@ nine_taken s h = sym h ∙ taken_is kinds (fields s) ∙ go (decimals (fields s)
     go None = refl
     go (Some v) = fitting_nine v
 
+-- where a field is missing, nothing is read
+pub nine_missing : (s : List ℕ) {r : Option Values} → r ≡ None → taken kinds (fields s) ≡ None → option_map values_of r ≡ option_and_then nine_values (decimals (fields s))
+nine_missing s e h = ap (option_map values_of) e ∙ nine_taken s h
+
 -- one field more
 missing_next : (b : Bool) (k : List Bool) (f : List (List ℕ)) → option_and_then (kind b) (next_decimal f).0 ≡ None → taken (b ∷ k) f ≡ None
 unfolding taken next_decimal
@@ -166,20 +158,58 @@ some_kind : (o : Option ℕ) → option_and_then (kind false) o ≡ o
 some_kind None = refl
 some_kind (Some n) = refl
 
-module _ (k : List Bool) (f g : List (List ℕ)) {o : Option ℕ} where
-  pub decimal_missing : (o, g) ≡ next_decimal f → o ≡ None → taken (false ∷ k) f ≡ None
-  decimal_missing e h = missing_next false k f (some_kind _ ∙ sym (ap (λ p. p.0) e) ∙ h)
+-- a switch is 0 or 1
+switched : (o : Option ℕ) (b : Bool) → option_and_then switch o ≡ Some b → option_and_then (kind true) o ≡ Some (number b)
+switched None b h = absurd (let z : ◌≡◌ {A = ℕ} 0 1 = cc in omega arith)
+switched (Some zero) true h = absurd (let z : ◌≡◌ {A = ℕ} 0 1 = cc in omega arith)
+switched (Some zero) false h = refl
+switched (Some (suc zero)) true h = refl
+switched (Some (suc zero)) false h = absurd (let z : ◌≡◌ {A = ℕ} 0 1 = cc in omega arith)
+switched (Some (suc (suc n))) b h =
+    let a = ne_eqb (suc (suc n)) 0 (λ q. omega arith) in
+    let c = ne_eqb (suc (suc n)) 1 (λ q. omega arith) in
+    absurd (let k = rw (a, c) at h in let z : ◌≡◌ {A = ℕ} 0 1 = cc in omega arith)
 
-  pub decimal_taken : (o, g) ≡ next_decimal f → (n : ℕ) → o ≡ Some n → taken (false ∷ k) f ≡ ahead (Some n) (taken k g)
-  decimal_taken e n h = taken_next false k f n (some_kind _ ∙ sym (ap (λ p. p.0) e) ∙ h) ∙ ap (λ r. ahead (Some n) (taken k r)) (sym (ap (λ p. p.1) e))
+unswitched : (o : Option ℕ) → option_and_then switch o ≡ None → option_and_then (kind true) o ≡ None
+unswitched None h = refl
+unswitched (Some zero) h = absurd (let z : ◌≡◌ {A = ℕ} 0 1 = cc in omega arith)
+unswitched (Some (suc zero)) h = absurd (let z : ◌≡◌ {A = ℕ} 0 1 = cc in omega arith)
+unswitched (Some (suc (suc n))) h = rw (lt-leb (suc (suc n)) 1 (omega arith))
 
-  pub switch_missing : (o, g) ≡ next_switch f → o ≡ None → taken (true ∷ k) f ≡ None
+module _ (k : List Bool) (f : List (List ℕ)) where
+  decimal_then : (g : List (List ℕ)) (o : Option ℕ) (n : ℕ) (r : Option (List ℕ)) → (o, g) ≡ next_decimal f → o ≡ Some n → taken k g ≡ r → taken (false ∷ k) f ≡ ahead (Some n) r
+  decimal_then g o n r e h more =
+      taken_next false k f n (some_kind _ ∙ sym (ap (λ p. p.0) e) ∙ h) ∙ ap (λ r. ahead (Some n) (taken k r)) (sym (ap (λ p. p.1) e)) ∙ ap (ahead (Some n)) more
+
+  switch_then : (g : List (List ℕ)) (o : Option Bool) (b : Bool) (r : Option (List ℕ)) → (o, g) ≡ next_switch f → o ≡ Some b → taken k g ≡ r → taken (true ∷ k) f ≡ ahead (Some (number b)) r
   unfolding next_switch
-  switch_missing e h = missing_next true k f (sym (ap (λ p. p.0) e) ∙ h)
+  switch_then g o b r e h more =
+      taken_next true k f (number b) (switched (next_decimal f).0 b (sym (ap (λ p. p.0) e) ∙ h)) ∙ ap (λ r. ahead (Some (number b)) (taken k r)) (sym (ap (λ p. p.1) e))
+      ∙ ap (ahead (Some (number b))) more
 
-  pub switch_taken : (o, g) ≡ next_switch f → (n : ℕ) → o ≡ Some n → taken (true ∷ k) f ≡ ahead (Some n) (taken k g)
-  unfolding next_switch
-  switch_taken e n h = taken_next true k f n (sym (ap (λ p. p.0) e) ∙ h) ∙ ap (λ r. ahead (Some n) (taken k r)) (sym (ap (λ p. p.1) e))
+  module _ {g : List (List ℕ)} {o : Option ℕ} where
+    -- a field that is missing
+    pub decimal_missing : (o, g) ≡ next_decimal f → o ≡ None → taken (false ∷ k) f ≡ None
+    decimal_missing e h = missing_next false k f (some_kind _ ∙ sym (ap (λ p. p.0) e) ∙ h)
+
+    -- one that is there, in front of fields of which one is missing, or of which all are there
+    pub decimal_past : {n : ℕ} → (o, g) ≡ next_decimal f → o ≡ Some n → taken k g ≡ None → taken (false ∷ k) f ≡ None
+    decimal_past {n} e h more = decimal_then g o n None e h more
+
+    pub decimal_taken : {n : ℕ} {v : List ℕ} → (o, g) ≡ next_decimal f → o ≡ Some n → taken k g ≡ Some v → taken (false ∷ k) f ≡ Some (n ∷ v)
+    decimal_taken {n} {v} e h more = decimal_then g o n (Some v) e h more
+
+  -- the same of a switch
+  module _ {g : List (List ℕ)} {o : Option Bool} where
+    pub switch_missing : (o, g) ≡ next_switch f → o ≡ None → taken (true ∷ k) f ≡ None
+    unfolding next_switch
+    switch_missing e h = missing_next true k f (unswitched (next_decimal f).0 (sym (ap (λ p. p.0) e) ∙ h))
+
+    pub switch_past : {b : Bool} → (o, g) ≡ next_switch f → o ≡ Some b → taken k g ≡ None → taken (true ∷ k) f ≡ None
+    switch_past {b} e h more = switch_then g o b None e h more
+
+    pub switch_taken : {b : Bool} {v : List ℕ} → (o, g) ≡ next_switch f → o ≡ Some b → taken k g ≡ Some v → taken (true ∷ k) f ≡ Some (number b ∷ v)
+    switch_taken {b} {v} e h more = switch_then g o b (Some v) e h more
 
 -- no field is left, or another
 pub all_taken : (o : Option (Bor (List ℕ))) → is_some o ≡ false → taken [] (fields_of o) ≡ Some []

@@ -3,6 +3,7 @@ ghost use Rattle.std.specs.Prelude.{◌≡◌, ◌≤◌, length};
 ghost use Rattle.pass_reader.specs.Numbers.{digit_value, number_of, decimal_shape, decimal_of};
 
 // The value of a digit, 16 of any other byte: a number and no Option, since the form's definition of a digit compares it with the base.
+#[tactic(auto, unfolding(crate::specs::Numbers::digit_value), using(std::proofs::lemmas::Bool::Decides::nat_tests))]
 fn digit(b: u8) -> u64
     ensures { result ≡ digit_value b }
 {
@@ -30,6 +31,7 @@ pub fn digits(s: &[u8], base: u64) -> Option<u64>
 }
 
 // At most 12 digits, and no zero in front of others.
+#[tactic(auto, unfolding(crate::specs::Numbers::decimal_shape), using(std::proofs::lemmas::Bool::Decides::nat_tests))]
 fn has_decimal_shape(s: &[u8]) -> bool
     ensures { result ≡ decimal_shape s.now }
 {
@@ -37,6 +39,7 @@ fn has_decimal_shape(s: &[u8]) -> bool
 }
 
 // A decimal field.
+#[tactic(auto, unfolding(crate::specs::Numbers::decimal_of), using(crate::proofs::NumberLaws::shape_short))]
 pub fn decimal(s: &[u8]) -> Option<u64>
     ensures { result ≡ decimal_of s.now }
 {

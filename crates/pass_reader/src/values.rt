@@ -7,15 +7,15 @@ ghost use Rattle.pass_reader.specs.Code.Answers.{values_of, fields_of, next_deci
 use crate::line::{place_of, text_of};
 use crate::number::decimal;
 
-// The values in the order of their names.
+// The values in the order of their names. The modulation is a number, which may stand for nothing: the channel refuses it.
 #[derive(Clone, Copy)]
 pub struct Values {
     pub rate: u64,
     pub factor: u64,
     pub modulation: u64,
-    pub adaptive: u64,
-    pub dual: u64,
-    pub bank: u64,
+    pub adaptive: bool,
+    pub dual: bool,
+    pub bank: bool,
     pub fade: u64,
     pub nominal: u64,
     pub target: u64,
@@ -29,20 +29,29 @@ struct Fields<'a> {
 
 impl<'a> Fields<'a> {
     // The next field's number.
+    #[tactic(auto, unfolding(crate::specs::Code::Answers::next_decimal), using(crate::proofs::ValuesLaws::first_of_more, crate::proofs::ValuesLaws::first_alone, crate::proofs::ByteLaws::tail_is))]
     fn decimal(&mut self) -> Option<u64>
         ensures { (result, fields_of self.new.rest) ≡ next_decimal (fields_of self.old.rest) }
     {
         let s = self.rest?;
-        let (field, rest) = s.split_at(place_of(s, b' '));
-        self.rest = rest.get(1..);
-        decimal(field)
+        let Some(n) = place_of(s, b' ') else {
+            self.rest = None;
+            return decimal(s);
+        };
+        self.rest = Some(&s[n + 1..]);
+        decimal(&s[..n])
     }
 
-    // The next field's number, if it is that of a switch.
-    fn switch(&mut self) -> Option<u64>
+    // The next field's switch, which is 0 or 1.
+    #[tactic(auto, unfolding(crate::specs::Code::Answers::next_switch), using(std::proofs::lemmas::Bool::Decides::nat_tests))]
+    fn switch(&mut self) -> Option<bool>
         ensures { (result, fields_of self.new.rest) ≡ next_switch (fields_of self.old.rest) }
     {
-        self.decimal().filter(|n| *n <= 1)
+        match self.decimal()? {
+            0 => Some(false),
+            1 => Some(true),
+            _ => None,
+        }
     }
 }
 
@@ -69,6 +78,7 @@ fn nine_values(s: &[u8]) -> Option<Values>
 }
 
 // Reads the line of values.
+#[tactic(auto, unfolding(crate::specs::Lines::values_line), using(crate::proofs::ByteLaws::text_fields, crate::proofs::LongLines::cut_values))]
 pub fn values_line(line: &[u8]) -> Option<Values>
     ensures { option_map values_of result ≡ values_line line.now }
 {

@@ -3,56 +3,33 @@
 use mathlib.Core.Path.{◌≡◌, refl, ap, sym, ◌∙◌}
 use mathlib.Core.Bool.{Bool, true, false}
 use mathlib.Core.List.{List, [], ◌∷◌, ◌++◌, append_assoc}
-use Prim.Native.Nat.{ℕ, ◌+◌, ◌-◌, ◌≤◌, ◌<◌}
+use Prim.Native.Nat.{ℕ, ◌+◌, ◌≤◌, ◌<◌}
 use native.Mathlib.Omega.{arith}
 use lib.Dec.{ltb}
-use lib.ListN.{length, take, drop, length-drop}
+use lib.ListN.{length, take, drop}
 use lib.Seq.{length-take-le, drop-drop}
-use lib.Ieee.{Float}
-use borrow.Author.Tests.{leb-true, ltb-true, ltb-false}
+use borrow.Author.Tests.{ltb-true, ltb-false}
 use Rattle.sequences.specs.Folds.{fold}
-use Rattle.pass_writer.specs.Code.Buffers.{longest}
-use Rattle.pass_writer.proofs.WrittenLaws.{written_behind, written_length, written_within}
 use Rattle.pass_reader.specs.Bytes.{newline}
 use Rattle.pass_reader.specs.Code.Places.{place}
 use Rattle.pass_stream.specs.Stream.{lines, rest}
 use Rattle.pass_stream.specs.Code.Carrying.{line_length}
 use Rattle.pass_stream.proofs.StreamLaws.{first_line, first_line_rest, no_line, no_line_rest, line_within, rest_chunks, fold_chunks}
-use Rattle.pass_setup.specs.declared.pass.Pass.{Pass}
 use Rattle.pass_setup.specs.Judging.{judged}
 use Rattle.pass_setup.specs.Listing.{Run, further, input_ended, list_after}
-use Rattle.pass_setup.specs.declared.pass.Judged.{Judged}
-use Rattle.pass_setup.specs.declared.pass.Ran.{Ran}
 use Rattle.pass_setup.specs.Code.Steps.{closed}
-use Rattle.pass_setup.specs.Code.Buffers.{Printed, printed, printed_with, as_printed, ChunkRun, past, line_run, run_has_room, only_if, lines_run, as_chunk_run}
+use Rattle.pass_setup.specs.Code.Buffers.{ChunkRun, past, line_run, run_has_room, only_if, lines_run}
 use Rattle.pass_session.proofs.LongLists.{line_length_is}
-use Rattle.pass_session.proofs.TextLaws.{judged_short, input_ended_short}
 
 -- a run whose list waits in a buffer
 abbrev pub waiting : ChunkRun → Run
-waiting g = record { pass = g.pass; windows = g.windows; list = take g.at g.out }
+waiting g = record { pass = g.pass; windows = g.windows; list = g.list }
 
 -- ---- one line
 
-module _ (g : ChunkRun) (line : List ℕ) (room : run_has_room g ≡ true) where
-  has_room : g.at + longest ≤ length g.out
-  unfolding run_has_room
-  has_room = leb-true _ _ room
-
-  line_waits : waiting (line_run g line) ≡ further (waiting g) line
-  unfolding line_run past printed_with printed further
-  line_waits =
-      let j = judged g.pass.stage g.pass g.windows line in
-      let q = written_behind g.at j.0.text g.out has_room (judged_short g.pass g.pass.stage g.windows line) in
-      λ i. record { pass = j.0.pass; windows = j.1; list = q i }
-
-  line_length_lem : length (line_run g line).out ≡ length g.out
-  unfolding line_run past printed_with printed
-  line_length_lem = written_length g.at (judged g.pass.stage g.pass g.windows line).0.text g.out has_room (judged_short g.pass g.pass.stage g.windows line)
-
-  line_fits_in : (line_run g line).at ≤ length g.out
-  unfolding line_run past printed_with printed
-  line_fits_in = written_within g.at (judged g.pass.stage g.pass g.windows line).0.text g.out has_room (judged_short g.pass g.pass.stage g.windows line)
+line_waits : (g : ChunkRun) (line : List ℕ) → waiting (line_run g line) ≡ further (waiting g) line
+unfolding line_run past further
+line_waits g line = refl
 
 pub line_used : (g : ChunkRun) (line : List ℕ) → (line_run g line).used ≡ g.used + length line
 unfolding line_run past
@@ -83,9 +60,6 @@ module _ (s : List ℕ) (used : ℕ) (l : List ℕ) (ls : List (List ℕ)) (e : 
   next_is : drop (line_length (drop used s)) (drop used s) ≡ drop (used + length l) s
   next_is = drop-drop (line_length (drop used s)) used s ∙ ap (λ (n : ℕ). drop (used + n) s) (sym line_is)
 
-  line_ends : used ≤ length s → used + length l ≤ length s
-  line_ends h = let a = line_is in let b = line_within (drop used s) in let c : length (drop used s) ≡ length s - used = simp length-drop refl in omega arith
-
   pub lines_after : ls ≡ lines (drop (used + length l) s)
   lines_after = ap others both ∙ ap lines next_is
     where
@@ -102,39 +76,28 @@ module _ (s : List ℕ) (used : ℕ) (l : List ℕ) (ls : List (List ℕ)) (e : 
 record Same (s : List ℕ) (g g' : ChunkRun) : Type 0 where
   run_is : fold further (waiting g) (lines (drop g.used s)) ≡ fold further (waiting g') (lines (drop g'.used s))
   rest_is : rest (drop g.used s) ≡ rest (drop g'.used s)
-  within : g'.at ≤ length g'.out
-  used_in : g'.used ≤ length s
 
 -- one line on
-same_line : (s : List ℕ) (l : List ℕ) (ls : List (List ℕ)) (g g' : ChunkRun) → l ∷ ls ≡ lines (drop g.used s) → run_has_room g ≡ true
-    → Same s (line_run g l) g' → Same s g g'
+same_line : (s : List ℕ) (l : List ℕ) (ls : List (List ℕ)) (g g' : ChunkRun) → l ∷ ls ≡ lines (drop g.used s) → Same s (line_run g l) g' → Same s g g'
 unfolding fold
-same_line s l ls g g' e room m =
+same_line s l ls g g' e m =
     let u = line_used g l in
     let n : ls ≡ lines (drop (line_run g l).used s) = lines_after s g.used l ls e ∙ ap (λ (k : ℕ). lines (drop k s)) (sym u) in
-    let f : fold further (waiting g) (l ∷ ls) ≡ fold further (waiting (line_run g l)) ls = ap (λ (r : Run). fold further r ls) (sym (line_waits g l room)) in
+    let f : fold further (waiting g) (l ∷ ls) ≡ fold further (waiting (line_run g l)) ls = ap (λ (r : Run). fold further r ls) (sym (line_waits g l)) in
     record {
       run_is = ap (fold further (waiting g)) (sym e) ∙ f ∙ ap (fold further (waiting (line_run g l))) n ∙ m.run_is;
       rest_is = rest_after s g.used l ls e ∙ ap (λ (k : ℕ). rest (drop k s)) (sym u) ∙ m.rest_is;
-      within = m.within;
-      used_in = m.used_in;
     }
 
-same_run : (s : List ℕ) (ls : List (List ℕ)) (g : ChunkRun) → ls ≡ lines (drop g.used s) → g.at ≤ length g.out → g.used ≤ length s
-    → Same s g (lines_run ls g)
+same_run : (s : List ℕ) (ls : List (List ℕ)) (g : ChunkRun) → ls ≡ lines (drop g.used s) → Same s g (lines_run ls g)
 unfolding lines_run only_if
-same_run s [] g e h k = record { run_is = refl; rest_is = refl; within = h; used_in = k }
-same_run s (l ∷ ls) g e h k =
-    go (run_has_room g) refl
-    (λ (room : run_has_room g ≡ true).
-    same_run s ls (line_run g l) (lines_after s g.used l ls e ∙ ap (λ (k : ℕ). lines (drop k s)) (sym (line_used g l)))
-    (let a = line_fits_in g l room in let b = line_length_lem g l room in omega arith)
-    (let a = line_used g l in let b = line_ends s g.used l ls e k in omega arith))
+same_run s [] g e = record { run_is = refl; rest_is = refl }
+same_run s (l ∷ ls) g e =
+    go (run_has_room g) (same_run s ls (line_run g l) (lines_after s g.used l ls e ∙ ap (λ (k : ℕ). lines (drop k s)) (sym (line_used g l))))
   where
-    go : (b : Bool) → run_has_room g ≡ b → (run_has_room g ≡ true → Same s (line_run g l) (lines_run ls (line_run g l)))
-        → Same s g (only_if b (lines_run ls (line_run g l)) g)
-    go true room more = same_line s l ls g (lines_run ls (line_run g l)) e room (more room)
-    go false room more = record { run_is = refl; rest_is = refl; within = h; used_in = k }
+    go : (b : Bool) → Same s (line_run g l) (lines_run ls (line_run g l)) → Same s g (only_if b (lines_run ls (line_run g l)) g)
+    go true more = same_line s l ls g (lines_run ls (line_run g l)) e more
+    go false more = record { run_is = refl; rest_is = refl }
 
 -- a text in two parts
 two_parts : (r : Run) (a b : List ℕ) → list_after r (a ++ b) ≡ list_after (fold further r (lines a)) (rest a ++ b)
@@ -142,39 +105,14 @@ unfolding list_after
 two_parts r a b = λ i. closed (fold_chunks further r a b i) (rest_chunks a b i)
 
 -- A run over a chunk s, of which g.used bytes are used: the list that is to come is the same, whatever comes after the chunk.
-module _ (s : List ℕ) (g : ChunkRun) (h : g.at ≤ length g.out) (k : g.used ≤ length s) where
-  pub chunk_listed : (more : List ℕ)
-      → list_after (waiting g) (drop g.used s ++ more)
-      ≡ list_after (waiting (lines_run (lines (drop g.used s)) g)) (drop (lines_run (lines (drop g.used s)) g).used s ++ more)
-  chunk_listed more =
-      let m = same_run s (lines (drop g.used s)) g refl h k in
-      two_parts (waiting g) (drop g.used s) more
-      ∙ (λ i. list_after (m.run_is i) (m.rest_is i ++ more))
-      ∙ sym (two_parts (waiting (lines_run (lines (drop g.used s)) g)) (drop (lines_run (lines (drop g.used s)) g).used s) more)
-
-  chunk_within : (lines_run (lines (drop g.used s)) g).at ≤ length (lines_run (lines (drop g.used s)) g).out
-  chunk_within = (same_run s (lines (drop g.used s)) g refl h k).within
-
-  chunk_used : (lines_run (lines (drop g.used s)) g).used ≤ length s
-  chunk_used = (same_run s (lines (drop g.used s)) g refl h k).used_in
-
--- what a run over a chunk returned is within the chunk and the buffer
-module _ (s : List ℕ) (p : Pass) (w : List Float) (at : ℕ) (out : List ℕ) (r : Ran) (w' : List Float) (out' : List ℕ)
-    (e : as_chunk_run r w' out' ≡ lines_run (lines s) (record { pass = p; windows = w; used = 0; at = at; out = out })) (h : at ≤ length out) where
-  pub ran_used : r.used ≤ length s
-  unfolding as_chunk_run
-  ran_used =
-      let a = chunk_used s (record { pass = p; windows = w; used = 0; at = at; out = out }) h (omega arith) in
-      let b = ap (λ (g : ChunkRun). g.used) e in
-      omega arith
-
-  pub ran_within : r.at ≤ length out'
-  unfolding as_chunk_run
-  ran_within =
-      let a = chunk_within s (record { pass = p; windows = w; used = 0; at = at; out = out }) h (omega arith) in
-      let b = ap (λ (g : ChunkRun). g.at) e in
-      let d = ap (λ (g : ChunkRun). length g.out) e in
-      omega arith
+pub chunk_listed : (s : List ℕ) (g : ChunkRun) (more : List ℕ)
+    → list_after (waiting g) (drop g.used s ++ more)
+    ≡ list_after (waiting (lines_run (lines (drop g.used s)) g)) (drop (lines_run (lines (drop g.used s)) g).used s ++ more)
+chunk_listed s g more =
+    let m = same_run s (lines (drop g.used s)) g refl in
+    two_parts (waiting g) (drop g.used s) more
+    ∙ (λ i. list_after (m.run_is i) (m.rest_is i ++ more))
+    ∙ sym (two_parts (waiting (lines_run (lines (drop g.used s)) g)) (drop (lines_run (lines (drop g.used s)) g).used s) more)
 
 -- ---- a write: what is taken out of the buffer stands in front of what comes
 
@@ -206,17 +144,3 @@ write_listed a r text =
 pub end_listed : (r : Run) (left : List ℕ) → length left ≤ place newline left → list_after r left ≡ closed r left
 unfolding list_after fold
 end_listed r left h = λ i. closed (fold further r (no_line left h i)) (no_line_rest left h i)
-
--- and what `finish` leaves in the buffer is that list
-pub end_waits : (p : Pass) (w : List Float) (left : List ℕ) (at : ℕ) (out : List ℕ) → at + longest ≤ length out
-    → take (printed (input_ended p.stage p left) at out).at (printed (input_ended p.stage p left) at out).out ≡ closed (record { pass = p; windows = w; list = take at out }) left
-unfolding printed
-end_waits p w left at out room = written_behind at (input_ended p.stage p left).text out room (input_ended_short p p.stage left)
-
-pub finished_within : (p : Pass) (left : List ℕ) (at : ℕ) (out : List ℕ) (r : Judged) (out' : List ℕ)
-    → as_printed r out' ≡ printed (input_ended p.stage p left) at out → at + longest ≤ length out → r.at ≤ length out
-unfolding as_printed printed
-finished_within p left at out r out' e room =
-    let a = written_within at (input_ended p.stage p left).text out room (input_ended_short p p.stage left) in
-    let b = ap (λ (x : Printed). x.at) e in
-    omega arith

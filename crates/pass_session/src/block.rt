@@ -11,6 +11,7 @@ use pass_setup::pass::{Judged, OUTSIDE, Pass, Stage, count};
 use pass_writer::lines::{Shown, block_line};
 
 // Not a From: both types belong to other crates.
+#[tactic(auto, unfolding(pass_setup::specs::Judging::shown_of))]
 fn shown(a: Answer) -> Shown
     ensures { result ≡ shown_of a }
 {
@@ -25,12 +26,13 @@ fn shown(a: Answer) -> Shown
 }
 
 // A block's answer: its line in the list, or its refusal.
-fn take_answer(p: Pass, b: Blocked, out: &mut [u8], at: usize) -> Judged
-    ensures { as_printed result out.new ≡ printed (refused_or b.answer.refusal p (block_taken b.answer b.channel p)) at out.old }
+#[tactic(auto, unfolding(pass_setup::specs::Judging::refused_or), using(crate::proofs::BlockCases::answer_printed))]
+fn take_answer(p: Pass, b: Blocked, out: &mut [u8]) -> Judged
+    ensures { as_printed result out.new ≡ printed (refused_or b.answer.refusal p (block_taken b.answer b.channel p)) out.old }
 {
     let a = b.answer;
     if a.refusal != 0 {
-        return p.refuse(a.refusal, out, at);
+        return p.refuse(a.refusal, out);
     }
     let block = count(p.block);
     Judged {
@@ -40,18 +42,19 @@ fn take_answer(p: Pass, b: Blocked, out: &mut [u8], at: usize) -> Judged
             block,
             channel: b.channel,
         },
-        at: block_line(out, at, block, shown(a)),
+        added: block_line(out, block, shown(a)),
     }
 }
 
 // The samples are read into a buffer of the function's own, which the channel normalises in place.
-pub fn take_block(p: Pass, line: &[u8], windows: &mut [f64], out: &mut [u8], at: usize) -> Judged
-    ensures { (as_printed result out.new, windows.new) ≡ printed_with (block_judged (flag_and_samples line.now) p windows.old) at out.old }
+#[tactic(auto, unfolding(pass_setup::specs::Code::Buffers::printed_with, pass_setup::specs::Judging::block_judged, pass_reader::specs::Code::Answers::read_into))]
+pub fn take_block(p: Pass, line: &[u8], windows: &mut [f64], out: &mut [u8]) -> Judged
+    ensures { (as_printed result out.new, windows.new) ≡ printed_with (block_judged (flag_and_samples line.now) p windows.old) out.old }
 {
     let mut samples = [0.0; 4096];
     let Some((flag, count)) = read_block(line, &mut samples) else {
-        return p.refuse(OUTSIDE, out, at);
+        return p.refuse(OUTSIDE, out);
     };
     let b = block(p.channel, flag, &mut samples[..count], &mut [], windows);
-    take_answer(p, b, out, at)
+    take_answer(p, b, out)
 }

@@ -8,15 +8,16 @@ use pass_reader::line::{is_block_names, is_names};
 use pass_setup::pass::{Judged, Pass, Stage};
 use pass_setup::setup::{take_names, take_values};
 
-// Judges one line, its newline with it. What it adds to the list goes into out from `at` on.
-pub fn judge(p: Pass, line: &[u8], windows: &mut [f64], out: &mut [u8], at: usize) -> Judged
-    ensures { (as_printed result out.new, windows.new) ≡ printed_with (judged p.stage p windows.old line.now) at out.old }
+// Judges one line, its newline with it. What it adds to the list goes to the head of out.
+#[tactic(auto, unfolding(pass_setup::specs::Judging::judged, pass_setup::specs::Code::Buffers::printed_with), using(pass_setup::proofs::LineCases::still_printed))]
+pub fn judge(p: Pass, line: &[u8], windows: &mut [f64], out: &mut [u8]) -> Judged
+    ensures { (as_printed result out.new, windows.new) ≡ printed_with (judged p.stage p windows.old line.now) out.old }
 {
     match p.stage {
-        Stage::Names => take_names(p, is_names(line), Stage::Values, out, at),
-        Stage::Values => take_values(p, line, out, at),
-        Stage::BlockNames => take_names(p, is_block_names(line), Stage::Blocks, out, at),
-        Stage::Blocks => take_block(p, line, windows, out, at),
-        Stage::Stopped => Judged { pass: p, at },
+        Stage::Names => take_names(p, is_names(line), Stage::Values, out),
+        Stage::Values => take_values(p, line, out),
+        Stage::BlockNames => take_names(p, is_block_names(line), Stage::Blocks, out),
+        Stage::Blocks => take_block(p, line, windows, out),
+        Stage::Stopped => Judged { pass: p, added: 0 },
     }
 }

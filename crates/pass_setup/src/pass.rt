@@ -22,6 +22,7 @@ pub enum Stage {
 
 impl Stage {
     // Whether the run has ended, so that nothing more need be read.
+    #[tactic(auto, unfolding(crate::specs::Code::Buffers::is_stopped))]
     pub fn is_stopped(self) -> bool
         ensures { result ≡ is_stopped self }
     {
@@ -38,14 +39,14 @@ pub struct Pass {
     pub channel: Channel,
 }
 
-// The pass after a line, and the place in the list's buffer after what the line added.
+// The pass after a line, and how many bytes the line added to the list: they stand at the head of the buffer that was lent.
 #[derive(Clone, Copy)]
 pub struct Judged {
     pub pass: Pass,
-    pub at: usize,
+    pub added: usize,
 }
 
-// How far a run over a chunk has come: the pass, how many bytes are used, and the place after what waits in the list's buffer.
+// How far a run over a chunk has come: the pass, how many bytes of the chunk are used, and how many of the list wait at the front of its buffer.
 #[derive(Clone, Copy)]
 pub struct Ran {
     pub pass: Pass,
@@ -54,6 +55,7 @@ pub struct Ran {
 }
 
 // One more line or block.
+#[tactic(auto, unfolding(crate::specs::Judging::counted), using(std::proofs::lemmas::Bool::Decides::nat_tests))]
 pub fn count(n: u64) -> u64
     ensures { result ≡ counted n }
 {
@@ -85,9 +87,10 @@ impl Pass {
         }
     }
 
-    // The line is refused, which ends the run.
-    pub fn refuse(self, number: u64, out: &mut [u8], at: usize) -> Judged
-        ensures { as_printed result out.new ≡ printed (line_refused number self) at out.old }
+    // The line is refused, which ends the run. The number is that of any of the refusals, as the list prints it.
+    #[tactic(auto, using(crate::proofs::LineCases::refused_printed))]
+    pub fn refuse(self, number: u64, out: &mut [u8]) -> Judged
+        ensures { as_printed result out.new ≡ printed (line_refused number self) out.old }
     {
         let line = count(self.line);
         Judged {
@@ -96,11 +99,12 @@ impl Pass {
                 line,
                 ..self
             },
-            at: refusal_line(out, at, line, number),
+            added: refusal_line(out, line, number),
         }
     }
 
     // The line is taken, and the list does not change.
+    #[tactic(auto, unfolding(crate::specs::Judging::line_taken))]
     pub fn take(self, stage: Stage, channel: Channel) -> Pass
         ensures { result ≡ (line_taken stage channel self).pass }
     {

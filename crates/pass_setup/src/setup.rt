@@ -15,20 +15,22 @@ use ieee754::conversion::u64_to_f64;
 use pass_reader::values::{Values, values_line};
 
 // A line of names: whether it is the one that has to stand here.
-pub fn take_names(p: Pass, stands: bool, next: Stage, out: &mut [u8], at: usize) -> Judged
-    ensures { as_printed result out.new ≡ printed (cond stands (line_taken next p.channel p) (line_refused outside p)) at out.old }
+#[tactic(auto, using(crate::proofs::LineCases::taken_printed))]
+pub fn take_names(p: Pass, stands: bool, next: Stage, out: &mut [u8]) -> Judged
+    ensures { as_printed result out.new ≡ printed (cond stands (line_taken next p.channel p) (line_refused outside p)) out.old }
 {
     if stands {
         Judged {
             pass: p.take(next, p.channel),
-            at,
+            added: 0,
         }
     } else {
-        p.refuse(OUTSIDE, out, at)
+        p.refuse(OUTSIDE, out)
     }
 }
 
 // Not a From, nor is `carriers`: both types belong to other crates.
+#[tactic(auto, unfolding(crate::specs::Opening::settings_of))]
 fn settings(v: Values) -> Settings
     ensures { result ≡ settings_of (values_of v) }
 {
@@ -36,15 +38,16 @@ fn settings(v: Values) -> Settings
         rate: v.rate,
         factor: v.factor,
         modulation: v.modulation,
-        adaptive: v.adaptive == 1,
-        dual_lock: v.dual == 1,
-        bank: v.bank == 1,
+        adaptive: v.adaptive,
+        dual_lock: v.dual,
+        bank: v.bank,
         two: false,
         fade: v.fade,
         ratio: 1.0,
     }
 }
 
+#[tactic(auto, unfolding(crate::specs::Opening::carriers_of, channel_model::specs::Opening::whole))]
 fn carriers(v: Values) -> Carriers
     ensures { result ≡ carriers_of (values_of v) }
 {
@@ -66,24 +69,25 @@ fn ready(v: Values) -> Result<Channel, Refused>
 
 // A channel that is opened and assigned, or the refusal of one of the two.
 #[tactic(auto, using(crate::proofs::LineCases::taken_printed), unfolding(crate::specs::Judging::refused_or))]
-fn take_channel(p: Pass, ready: Result<Channel, Refused>, out: &mut [u8], at: usize) -> Judged
-    ensures { as_printed result out.new ≡ printed (refused_or (returned ready).refusal p (line_taken Stage.BlockNames (returned ready).channel p)) at out.old }
+fn take_channel(p: Pass, ready: Result<Channel, Refused>, out: &mut [u8]) -> Judged
+    ensures { as_printed result out.new ≡ printed (refused_or (returned ready).refusal p (line_taken Stage.BlockNames (returned ready).channel p)) out.old }
 {
     match ready {
         Ok(channel) => Judged {
             pass: p.take(Stage::BlockNames, channel),
-            at,
+            added: 0,
         },
-        Err(refused) => p.refuse(refused.refusal.number(), out, at),
+        Err(refused) => p.refuse(refused.refusal.number(), out),
     }
 }
 
 // The line of values: its form first, then open, then assign.
-pub fn take_values(p: Pass, line: &[u8], out: &mut [u8], at: usize) -> Judged
-    ensures { as_printed result out.new ≡ printed (values_judged (values_line line.now) p) at out.old }
+#[tactic(auto, unfolding(crate::specs::Judging::values_judged))]
+pub fn take_values(p: Pass, line: &[u8], out: &mut [u8]) -> Judged
+    ensures { as_printed result out.new ≡ printed (values_judged (values_line line.now) p) out.old }
 {
     let Some(v) = values_line(line) else {
-        return p.refuse(OUTSIDE, out, at);
+        return p.refuse(OUTSIDE, out);
     };
-    take_channel(p, ready(v), out, at)
+    take_channel(p, ready(v), out)
 }

@@ -1,3 +1,2 @@
 -- Laws of a stream of lines.
 pub mod StreamLaws
-pub mod CarryLaws

@@ -7,7 +7,7 @@ use native.Mathlib.Numerals.{add-one}
 use native.Mathlib.Omega.{arith}
 use lib.Dec.{eqb, ltb}
 use lib.ListN.{length, take, drop}
-use borrow.Author.Tests.{ne_eqb, lt-ltb, le-ltb, ltb-true, ltb-false}
+use borrow.Author.Tests.{ne_eqb, lt-ltb, ltb-true, ltb-false}
 use Rattle.sequences.specs.Folds.{fold}
 use Rattle.sequences.proofs.FoldLaws.{fold_append}
 use Rattle.pass_reader.specs.Bytes.{newline, onto}
@@ -152,12 +152,3 @@ rest_chunks a b = (cut a b).rest_cut
 pub fold_chunks {ℓ} : {P : Type ℓ} (step : P → List ℕ → P) (p : P) (a b : List ℕ)
     → fold step p (lines (a ++ b)) ≡ fold step (fold step p (lines a)) (lines (rest a ++ b))
 fold_chunks step p a b = ap (fold step p) (lines_chunks a b) ∙ fold_append step p (lines a) (lines (rest a ++ b))
-
--- the length of the first line from the place of the newline
-pub length_none : (s : List ℕ) (n : ℕ) → n ≡ place newline s → length s ≤ n → line_length s ≡ 0
-unfolding line_length
-length_none s n e h = rw (le-ltb (place newline s) (length s) (omega arith))
-
-pub length_some : (s : List ℕ) (n : ℕ) → n ≡ place newline s → n < length s → n + 1 ≡ line_length s
-unfolding line_length
-length_some s n e h = rw (lt-ltb (place newline s) (length s) (omega arith), e)

@@ -18,6 +18,7 @@ use Rattle.pass_setup.specs.Listing.{Run}
 use Rattle.pass_transfer.specs.declared.Next.{Next}
 use Rattle.pass_transfer.specs.declared.Next.TheVariants.{Read, Failed}
 use Rattle.pass_transfer.specs.declared.State.{State}
+use Rattle.pass_transfer.specs.declared.Account.{Account}
 use Rattle.pass_transfer.specs.Account.{Carried}
 use Rattle.pass_transfer.specs.Code.Standing.{got_of, Took, AtEnd, NoLine, waits, Moves, with_written, given_up, with_more, with_end, with_last, account_of}
 use Rattle.pass_transfer.proofs.StandingLaws.{stands_given_up, stands-written, stands_read, stands-more, stands_end, stands_failed, accounted}
@@ -103,3 +104,7 @@ module _ (s : State) (g : Run) (b o : List ℕ) (had left held holds : Option (L
 
 pub moves_as : (r s : State) (g : Run) (b o : List ℕ) (had left held holds : Option (List ℕ)) → r ≡ s → Moves s g b o had left held holds → Moves r g b o had left held holds
 moves_as r s g b o had left held holds e h = subst (λ (x : State). Moves x g b o had left held holds) (sym e) h
+
+pub carried_as : (a : Account) (s : State) (g : Run) (b o : List ℕ) (had left held holds : Option (List ℕ)) (turns : ℕ) → a ≡ account_of s turns → Moves s g b o had left held holds
+    → Carried a had left held holds
+carried_as a s g b o had left held holds turns e h = subst (λ (x : Account). Carried x had left held holds) (sym e) (carried s g b o had left held holds h turns)

@@ -13,6 +13,7 @@ use Rattle.pass_setup.specs.Listing.{Run, list_of, list_after}
 use Rattle.pass_transfer.specs.declared.Next.{Next}
 use Rattle.pass_transfer.specs.declared.Next.TheVariants.{Read, Turn, Close, Refused, Ended, Failed}
 use Rattle.pass_transfer.specs.declared.State.{State}
+use Rattle.pass_transfer.specs.declared.Account.{Account}
 use Rattle.pass_transfer.specs.Account.{Listed, Accounted, Completed, is_last}
 use Rattle.pass_transfer.specs.Code.Standing.{NoLine, is_over, Counted, Standing, Ready, waits, Stands, with_written, given_up, with_more, with_end, with_last, account_of}
 
@@ -182,6 +183,9 @@ accounted s g b o h turns =
       unsent_is = sym (waits_count s o h.placed.sent h.placed.within);
       list_is = listed s.next s.error h.input (h.output ++ waits s o) g (take s.left b) h.list_is;
     }
+
+pub accounted_as : (a : Account) (s : State) (g : Run) (b o : List ℕ) (turns : ℕ) → a ≡ account_of s turns → Stands s g b o → Accounted a
+accounted_as a s g b o turns e h = subst Accounted (sym e) (accounted s g b o h turns)
 
 pub completed : (s : State) → s.from ≤ s.at → is_over s ≡ true → (turns : ℕ) → Completed (account_of s turns)
 completed s sent over turns free left = go s.stuck (ltb s.from s.at) free refl over

@@ -3,7 +3,7 @@
 // files that is not known, and no contract can say it; it is seen in `read_once`, `write_once` and `write_waiting`, three lines at most.
 #![tactic(auto)]
 
-ghost use Rattle.std.specs.Prelude.{cond, List, ◌≡◌, ℕ, ◌+◌, ◌-◌, ◌≤◌, ◌<◌, length, take, drop, IfOk, Option};
+ghost use Rattle.std.specs.Prelude.{cond, true, List, ◌≡◌, ℕ, ◌+◌, ◌-◌, ◌≤◌, ◌<◌, length, take, drop, IfOk, Option};
 ghost use Rattle.std.specs.Io.KnownBytes.{WriteAppends};
 ghost use Rattle.pass_writer.specs.Code.Buffers.{longest};
 ghost use Rattle.pass_setup.specs.Listing.{Run};
@@ -16,7 +16,13 @@ use std::io;
 use std::io::{ErrorKind, Read, Write};
 use std::time::Clock;
 
-// How many bytes of the text are held at most, and of the list.
+// The system's number of the error of a call that a signal interrupted.
+const EINTR: u64 = 4;
+
+// That of one that would have to wait.
+const EAGAIN: u64 = 11;
+
+// The size of the text's buffer in bytes, and of the list's.
 pub const TEXT: usize = 262144;
 
 pub const LIST: usize = 65536;
@@ -78,6 +84,7 @@ pub struct Account {
 }
 
 // What the answer of a read means: how many bytes came, or none at the end of the input.
+#[tactic(auto, unfolding(crate::specs::Code::Standing::got_of), using(std::proofs::lemmas::Bool::Decides::nat_tests))]
 fn got_of(got: io::Result<usize>, part: &[u8]) -> io::Result<Option<usize>>
     ensures { result ≡ got_of got (length part.now) }
 {
@@ -85,6 +92,7 @@ fn got_of(got: io::Result<usize>, part: &[u8]) -> io::Result<Option<usize>>
     Ok((count > 0).then_some(count))
 }
 
+#[tactic(auto, using(crate::proofs::ReadLaws::brought, crate::proofs::MovesLaws::took_of))]
 fn read_once<R: Read>(part: &mut [u8], input: &mut R) -> io::Result<Option<usize>>
     ensures brought { Brought result (length part.old) }
     ensures took { Took result (R.remaining input.old) (R.remaining input.new) part.new }
@@ -94,6 +102,7 @@ fn read_once<R: Read>(part: &mut [u8], input: &mut R) -> io::Result<Option<usize
 }
 
 // Reads once, behind the bytes that are held.
+// Not `read_once(&mut buf[s.left..], input)` in `fetch`: each of its three ways on would have to say by itself that the bytes in front are left as they were.
 fn read_behind<R: Read>(buf: &mut [u8], left: usize, input: &mut R) -> io::Result<Option<usize>>
     requires { left ≤ length buf.old }
     ensures brought { Brought result (length buf.old - left) }
@@ -112,6 +121,7 @@ fn write_once<W: Write>(part: &[u8], output: &mut W) -> io::Result<usize>
 }
 
 // Writes some of what waits.
+#[tactic(auto, using(crate::proofs::MovesLaws::waits_part))]
 fn write_waiting<W: Write>(s: State, out: &[u8], output: &mut W) -> io::Result<usize>
     requires { (s.from ≤ s.at) × (s.at ≤ length out.now) }
     ensures upper_bound { IfOk result (λ n. s.from + n ≤ s.at) }
@@ -127,8 +137,9 @@ fn number_of(e: i32) -> u64
     u64::try_from(e).unwrap_or(0)
 }
 
-// The number of a call's error. One that the system did not number has that of a signal (EINTR) or of a call that would have to wait (EAGAIN) if it is of that
-// kind, and otherwise none.
+// The number of a call's error. One that the system did not number has that of a signal or of a call that would have to wait if it is of that kind, and
+// otherwise none.
+#[tactic(auto, unfolding(crate::specs::Code::Standing::failure_of, crate::specs::Code::Standing::kind_number))]
 fn error_number(error: io::Error) -> u64
     ensures { result ≡ failure_of error }
 {
@@ -136,71 +147,70 @@ fn error_number(error: io::Error) -> u64
         return number_of(code);
     }
     match error.kind() {
-        ErrorKind::WouldBlock => 11,
-        ErrorKind::Interrupted => 4,
+        ErrorKind::WouldBlock => EAGAIN,
+        ErrorKind::Interrupted => EINTR,
         _ => 0,
     }
 }
 
-// Whether a call that failed so is made again: a signal came before it (EINTR), or it would have had to wait (EAGAIN), which is done here.
+// Whether a call that failed so is made again: a signal came before it, or it would have had to wait, which is done here.
+#[tactic(auto, unfolding(crate::specs::Code::Standing::is_passing), using(std::proofs::lemmas::Bool::Decides::nat_tests))]
 fn comes_again(clock: &impl Clock, error: u64) -> bool
     ensures { result ≡ is_passing error }
 {
-    if error == 11 {
+    if error == EAGAIN {
         pause(clock);
         return true;
     }
-    error == 4
+    error == EINTR
 }
 
 // A write took nothing: the run ends here.
-fn give_up(rt: &impl Eprint, s: State, taken: usize, error: io::Error) -> State
-    requires { taken ≡ 0 }
+fn give_up(rt: &impl Eprint, s: State, error: io::Error) -> State
     ensures { result ≡ given_up s }
 {
     let _ = eprintln!(rt; "passlist: write: {error}");
     State { stuck: true, ..s }
 }
 
-// What a write took of what waits is written; one that failed is made again, or ends the run, and so does one that took nothing.
+// What a write took of what waits is written; one that failed is made again, or ends the run, and so does one that took nothing, but none that took something.
 fn send<W: Write, S: Clock + Eprint>(rt: &S, s: State, out: &[u8; LIST], output: &mut W) -> State
     requires { (s.from < s.at) × (s.at ≤ length out.now) × Countable s }
     ensures stands { (g : Run) (b : List ℕ) → Stands s g b out.now → Stands result g b out.now }
     ensures moves { (g : Run) (b : List ℕ) (had left held : Option (List ℕ)) → Moves s g b out.now had left held (W.contents output.old)
         → Moves result g b out.now had left held (W.contents output.new) }
     ensures counted { Counted s result }
+    ensures stuck_unchanged { s.written < result.written → result.stuck ≡ s.stuck }
 {
     match write_waiting(s, out, output) {
-        Ok(n) => {
-            if n == 0 {
-                return give_up(rt, s, n, io::Error::from(ErrorKind::WriteZero));
-            }
-            s.sent(n)
-        }
-        Err(error) => {
-            if comes_again(rt, error_number(error)) {
-                return s;
-            }
-            give_up(rt, s, 0, error)
-        }
+        Ok(0) => give_up(rt, s, io::Error::from(ErrorKind::WriteZero)),
+        Ok(n) => s.sent(n),
+        Err(error) if comes_again(rt, error_number(error)) => s,
+        Err(error) => give_up(rt, s, error),
     }
 }
 
 // A read failed: it is made again, or the list is cut here.
-fn at_failure<S: Clock + Eprint>(rt: &S, s: State, out: &mut [u8], failure: io::Error) -> State
-    requires { (s.next ≡ Next.Read) × (s.from ≡ s.at) × (longest ≤ length out.old) }
+fn at_failure<S: Clock + Eprint>(
+    rt: &S,
+    s: State,
+    out: &mut [u8; LIST],
+    failure: io::Error,
+) -> State
+    requires { (s.next ≡ Next.Read) × (s.from ≡ s.at) }
     ensures stands { (g : Run) (b : List ℕ) → Stands s g b out.old → Stands result g b out.new }
     ensures moves { (g : Run) (b : List ℕ) (had left held holds : Option (List ℕ)) → Moves s g b out.old had left held holds → Moves result g b out.new had left held holds }
     ensures counted { Counted s result }
     ensures next_value { result.next ≡ cond (is_passing (failure_of failure)) Next.Read Next.Failed }
     ensures error_value { result.error ≡ cond (is_passing (failure_of failure)) s.error (failure_of failure) }
+    ensures out_unchanged { is_passing (failure_of failure) ≡ true → out.new ≡ out.old }
 {
     let error = error_number(failure);
     if comes_again(rt, error) {
         return s;
     }
     let _ = eprintln!(rt; "passlist: read: {failure}");
-    let n = failure_line(out, 0, error);
+    let n = failure_line(out, error);
     s.closing(n, Next::Failed, error)
 }
 
@@ -250,6 +260,7 @@ pub fn step<R: Read, W: Write, S: Clock + Eprint>(
     }
 }
 
+// `Countable` is no invariant of State: one call may use up the room that it speaks of, and it is the number of turns that gives it anew each time.
 impl State {
     // So many of the bytes that wait are written.
     fn sent(self, n: usize) -> State

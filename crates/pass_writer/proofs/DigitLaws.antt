@@ -1,8 +1,8 @@
 -- Laws of digits: how many there are, and that as many of them as a decimal number has write it.
 use mathlib.Core.Path.{◌≡◌, refl, sym, ◌∙◌}
 use mathlib.Core.Bool.{Bool, true, false, cond}
-use mathlib.Core.List.{[], ◌∷◌, ◌++◌}
-use Prim.Native.Nat.{ℕ, zero, suc, ◌+◌, ◌-◌, ◌*◌, ◌/◌, ◌%◌, ◌^◌, ◌≤◌, ◌<◌, max}
+use mathlib.Core.List.{List, [], ◌∷◌, ◌++◌}
+use Prim.Native.Nat.{ℕ, zero, suc, ◌+◌, ◌*◌, ◌/◌, ◌%◌, ◌^◌, ◌≤◌, ◌<◌, max}
 use native.Mathlib.Numerals.{add-one}
 use native.Mathlib.Nat.{pow-suc, le-div_iff_mul-le, div-lt_iff_lt-mul}
 use native.Mathlib.Omega.{arith}
@@ -22,14 +22,16 @@ pub length_float : (x : Float) → length (float_text x) ≡ 16
 unfolding float_text
 length_float x = length_digits 16 16 (to_bits binary64 x)
 
--- a digit as a byte
-pub decimal_glyph : (d : ℕ) → d < 10 → 48 + d ≡ glyph_of d
-unfolding glyph_of
-decimal_glyph d h = rw (lt-ltb d 10 h)
+-- the last digit, behind those of the number without it
+pub digits_last : (base n i k b : ℕ) {front : List ℕ} → i + 1 ≡ k → b ≡ glyph_of (n % base) → front ≡ digits base i (n / base) → front ++ (b ∷ []) ≡ digits base k n
+unfolding digits
+digits_last base n i zero b m e f = absurd (omega arith)
+digits_last base n i (suc k) b m e f = let z : i ≡ k = omega arith in rw (f, e, z)
 
-pub letter_glyph : (d : ℕ) → 10 ≤ d → 97 + (d - 10) ≡ glyph_of d
-unfolding glyph_of
-letter_glyph d h = rw (le-ltb d 10 h)
+pub no_digits : (base n : ℕ) (l : List ℕ) → length l ≡ 0 → l ≡ digits base (length l) n
+unfolding digits
+no_digits base n [] e = refl
+no_digits base n (b ∷ l) e = absurd (omega arith)
 
 -- as many digits as a decimal number has
 digits_decimal : (k n : ℕ) → digits 10 (length (decimal_from k n)) n ≡ decimal_from k n

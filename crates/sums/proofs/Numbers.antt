@@ -1,36 +1,17 @@
 -- Lists of the program's complex numbers: what a write leaves, a slice's parts as pairs, and an array that is made by calls.
 use mathlib.Core.Path.{◌≡◌, refl, ap, ◌∙◌, subst}
 use mathlib.Core.List.{List, []}
-use mathlib.Core.Logic.{◌≢◌}
 use Prim.Native.Nat.{ℕ, zero, suc, ◌+◌, ◌*◌, ◌≤◌, ◌<◌}
 use native.Mathlib.Nat.{add-zero}
 use native.Mathlib.Omega.{arith}
 use native.Mathlib.Decide.{ℕ_discrete, dec_lt}
 use denote.Param.Members.{Mut, Called}
-use lib.ListN.{length, get_or, set, take, drop}
-use lib.Seq.{get_or-set_same, get_or-set_other, get_or-take, get_or-drop, drop-drop}
+use lib.ListN.{get_or, take, drop}
+use lib.Seq.{get_or-take, get_or-drop, drop-drop}
 use lib.Ieee.{Float, nan}
 use Rattle.std.specs.Array.{IsFromFnResultFrom}
 use Rattle.std.specs.Simd.{first_chunks}
-use Rattle.sums.specs.declared.complex.Complex.{Complex}
 use Rattle.sums.specs.Interleaved.{at}
-use Rattle.sums.specs.Code.Numbers.{parts, number}
-
--- ---- a write
-
-pub number_written : (zs : List Complex) (i : ℕ) (z : Complex) → i < length zs → number (set zs i z) i ≡ parts z
-number_written zs i z h = ap parts (get_or-set_same zs i z (record { re = nan; im = nan }) h)
-
-pub number_other : (zs : List Complex) (i j : ℕ) (z : Complex) → j ≢ i → number (set zs i z) j ≡ number zs j
-number_other zs i j z d = ap parts (get_or-set_other zs i j z (record { re = nan; im = nan }) d)
-
--- what holds of each element before place i, and of the new one there, holds of each before the next
-pub written_next : {A : Type 0} (P : ℕ → A → Type 0) (xs : List A) (i : ℕ) (v d : A) → i < length xs → P i v
-    → ((k : ℕ) → k < i → P k (get_or xs k d)) → (k : ℕ) → k < i + 1 → P k (get_or (set xs i v) k d)
-written_next P xs i v d h p before k lt = elim (ℕ_discrete k i) [
-  | yes e ↦ rw (e, get_or-set_same xs i v d h) p
-  | no ne ↦ rw (get_or-set_other xs i k v d ne) (before k (omega arith))
-]
 
 -- ---- the chunks of two numbers are the numbers of an interleaved list
 

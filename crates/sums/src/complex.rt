@@ -13,6 +13,10 @@ pub struct Complex {
 }
 
 impl Complex {
+    pub const ZERO: Complex = Complex { re: 0.0, im: 0.0 };
+
+    pub const ONE: Complex = Complex { re: 1.0, im: 0.0 };
+
     pub fn conjugate(self) -> Complex
         ensures { parts result ≡ conj (parts self) }
     {

@@ -1,26 +1,12 @@
--- Only a NaN differs from itself; the test of a list of six.
-use Prim.Native.Nat.{ℕ, ◌*◌}
-use mathlib.Core.Path.{◌≡◌, refl, ap}
-use mathlib.Core.Bool.{Bool, true, false, not, ◌&&◌, ◌||◌, or-false}
+-- The test of a list of six.
+use mathlib.Core.Path.{◌≡◌, refl}
+use mathlib.Core.Bool.{Bool, true, false, ◌||◌, or-false}
 use mathlib.Core.List.{List, [], ◌∷◌}
 use native.Mathlib.Omega.{arith}
-use lib.Dec.{eqb}
 use lib.ListN.{length}
-use lib.Ieee.{Float, nan, inf, fin, up, down, eq, ne, is_nan, level}
-use borrow.Author.Tests.{eq-eqb}
+use lib.Ieee.{Float, is_nan}
 use Rattle.std.specs.List.{list_any}
 use Rattle.tracker.specs.Correction.{any_nan}
-
-same : (s : Bool) (a : ℕ) → level s a s a ≡ true
-same true a = ap (λ (b : Bool). b && (true || eqb a 0)) (eq-eqb a a refl)
-same false a = ap (λ (b : Bool). b && (true || eqb a 0)) (eq-eqb a a refl)
-
-pub differs : (x : Float) → ne x x ≡ is_nan x
-unfolding ne eq is_nan
-differs nan = refl
-differs (inf true) = refl
-differs (inf false) = refl
-differs (fin s m e) = ap not (same s (m * up e * down e))
 
 six : (a b c d e f : Bool) → (a || (b || (c || (d || (e || (f || false)))))) ≡ (((((a || b) || c) || d) || e) || f)
 six true b c d e f = refl

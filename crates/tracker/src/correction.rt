@@ -11,7 +11,6 @@ use ieee754::order::clamp;
 use tracker_covariance::states::Band;
 use tracker_measurement::measure::Prior;
 use tracker_measurement::modulation::{Modulation, wrap};
-use tracker_power_ratio::push;
 
 // What a correction answers: the in-phase value and the power ratio, or that the tracker was lost. Not an Option of a pair: the scope names the two cases.
 #[derive(Clone, Copy)]
@@ -93,14 +92,14 @@ pub fn lose(t: CarrierPllEkf) -> CarrierPllEkf
     }
 }
 
-// The first channel's pair enters the window; the second has none. The window is no array of 2,048: it is a stretch of memory that is lent as a slice, and
-// `push` takes a slice.
+// The first channel's pair enters the window; the second has none. The window is a slice and no array of 2,048: the scope has a channel lend
+// `&mut w[2048*i..2048*(i+1)]` of its memory.
 pub fn enter(t: CarrierPllEkf, w: &mut [f64], abs_i: f64, q_sq: f64) -> CarrierPllEkf
     requires { length w.old ≡ 2048 }
     ensures { (result, w.new) ≡ windowed First t w.old abs_i q_sq }
 {
     CarrierPllEkf {
-        power: push(t.power, w, abs_i, q_sq),
+        power: t.power.push(w, abs_i, q_sq),
         ..t
     }
 }

@@ -8,7 +8,6 @@ use crate::gain::apply;
 use crate::state::{CarrierPllEkf, Tracked};
 use tracker_covariance::states::{Band, FirstChannel};
 use tracker_measurement::measure::measure;
-use tracker_power_ratio::ratio_of;
 
 // The sample enters the envelope and the window, and then the states.
 pub fn correct_by_first(h: Tracked, w: &mut [f64], re: f32, im: f32) -> Corrected
@@ -22,7 +21,7 @@ pub fn correct_by_first(h: Tracked, w: &mut [f64], re: f32, im: f32) -> Correcte
         ..ekf
     };
     let ekf = enter(t, w, m.abs_i, m.q_sq);
-    let pr = ratio_of(ekf.power.sum_abs_i, ekf.power.sum_q_sq);
+    let pr = ekf.power.ratio();
     let kept = Correction::Kept(m.norm_re, pr);
     apply::<FirstChannel>(Tracked { ekf, p }, m.z, m.r_effective, kept)
 }

@@ -5,6 +5,7 @@ ghost use Rattle.tracker.specs.Lock.{unlocks, settled};
 use crate::state::CarrierPllEkf;
 
 // Whether a metric and a power ratio unlock, once the guard is down.
+#[tactic(auto, unfolding(crate::specs::Lock::unlocks))]
 fn unlocks_at(dual_lock: bool, lock_metric: f64, pr: f64) -> bool
     ensures { result ≡ unlocks dual_lock lock_metric pr }
 {

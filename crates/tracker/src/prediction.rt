@@ -8,6 +8,7 @@ use tracker_covariance::prediction::ProcessNoise;
 use tracker_covariance::states::predict_state;
 
 // The factor of the process noise: smaller as the lock gets better.
+#[tactic(auto, unfolding(crate::specs::Prediction::noise_scale))]
 fn noise_scale(adaptive: bool, lock_metric: f64) -> f64
     ensures { result ≡ noise_scale adaptive lock_metric }
 {
@@ -18,6 +19,7 @@ fn noise_scale(adaptive: bool, lock_metric: f64) -> f64
     }
 }
 
+#[tactic(auto, unfolding(crate::specs::Prediction::process_noise))]
 pub fn process_noise(t: CarrierPllEkf, dt: f64) -> ProcessNoise
     ensures { result ≡ process_noise dt t }
 {

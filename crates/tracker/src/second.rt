@@ -14,6 +14,7 @@ use tracker_measurement::measure::receive;
 use tracker_measurement::modulation::wrap;
 
 // The sample enters the envelope, and then the states; the window stays. One that is not lost answers the pair of the first correction.
+#[tactic(auto, unfolding(crate::specs::Code::Second::second_moved, tracker_measurement::specs::Measurement::measured, tracker_measurement::specs::Code::Parts::received))]
 pub fn correct_by_second(h: Tracked, norm_re: f64, pr: f64, re: f32, im: f32) -> Corrected
     ensures { result ≡ second_moved h.ekf h.p norm_re pr re im }
 {

@@ -58,6 +58,7 @@ impl CarrierPllEkf {
     // The updates after a reset that cannot unlock.
     pub const CONVERGENCE_GUARD: usize = 2048;
 
+    #[tactic(auto, unfolding(crate::specs::State::initial_tracker))]
     pub fn new(fs: f64, modulation: Modulation) -> Tracked
         ensures { result ≡ initial_tracker fs modulation true true one }
     {
@@ -86,6 +87,7 @@ impl CarrierPllEkf {
     }
 
     // The tracker locked anew at a phase, a frequency and a chirp.
+    #[tactic(auto, unfolding(crate::specs::State::reset_to))]
     pub fn reset(self, phase: f64, freq_hz: f64, chirp_hz_s: f64) -> Tracked
         ensures { result ≡ reset_to self phase freq_hz chirp_hz_s }
     {

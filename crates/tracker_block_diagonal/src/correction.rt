@@ -1,4 +1,4 @@
-// Correction of the covariance by the first channel's phase, each half by itself. Plain numbers and no loop, for speed.
+// Correction of the covariance by the first channel's phase, each half by itself.
 ghost use Rattle.std.specs.Prelude.{◌≡◌, true, IfSome};
 ghost use Rattle.std.specs.Float.Ieee.{le};
 ghost use Rattle.ieee754.specs.Binary64.{ten_to_minus12};
@@ -101,5 +101,5 @@ pub fn correct(h: Halves, noise: f64) -> Option<(Gain, Halves)>
         first: joseph_right(t, k, noise),
         second: shift(g, 0.0 * noise),
     };
-    if apart { Some((k, halves)) } else { None }
+    apart.then_some((k, halves))
 }

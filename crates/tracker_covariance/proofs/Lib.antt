@@ -3,5 +3,4 @@ pub mod Filling
 pub mod Entries
 pub mod Floor
 pub mod Transition
-pub mod Phases
 pub mod Textbook

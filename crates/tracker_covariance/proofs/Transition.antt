@@ -9,7 +9,7 @@ use lib.ListN.{get_or, set}
 use lib.Ieee.{Float, nan}
 use Rattle.ieee754.specs.Binary64.{plus, times, half}
 use Rattle.tracker_covariance.specs.Matrix.{at}
-use Rattle.tracker_covariance.specs.Transition.{row, dot, by_f, by_ft}
+use Rattle.tracker_covariance.specs.Transition.{moved, row, dot, by_f, by_ft}
 use Rattle.tracker_covariance.specs.Code.Transposed.{transposed}
 use Rattle.tracker_covariance.proofs.Filling.{Rows, store_row}
 use Rattle.tracker_covariance.proofs.Entries.{matrix_at, matrix_ext}
@@ -37,31 +37,34 @@ twice dt p =
 abbrev pub step_at : Float → List Float → ℕ → ℕ → Float
 step_at dt p r c = at (by_f dt p) c r
 
--- one turn of the loop stores F times column r of P as row r
-pub turn : (dt : Float) (p out : List Float) (r : ℕ) → r < 6 → Rows (step_at dt p) out (6 * r + 0)
-    → let dt2 = times (times half dt) dt in
-    let e : ℕ → Float = λ k. get_or p (k + r) nan in
-    Rows (step_at dt p)
+-- one turn of the loop stores F times column r of P as row r, a being the first channel's three numbers and b the second's
+pub turn : (dt : Float) (p out : List Float) (r : ℕ) (a b : List Float) → r < 6
+    → let e : ℕ → Float = λ k. get_or p (k + r) nan in
+    a ≡ moved dt (get_or p r nan) (e 6) (e 12) → b ≡ moved dt (e 18) (e 24) (e 30)
+    → Rows (step_at dt p) out (6 * r + 0)
+    → Rows (step_at dt p)
     (set
     (set
     (set
     (set
     (set
-    (set out (6 * r) (plus (plus (get_or p r nan) (times dt (e 6))) (times dt2 (e 12))))
-    (6 * r + 1) (plus (e 6) (times dt (e 12))))
-    (6 * r + 2) (e 12))
-    (6 * r + 3) (plus (plus (e 18) (times dt (e 24))) (times dt2 (e 30))))
-    (6 * r + 4) (plus (e 24) (times dt (e 30))))
-    (6 * r + 5) (e 30))
+    (set out (6 * r) (get_or a 0 nan))
+    (6 * r + 1) (get_or a 1 nan))
+    (6 * r + 2) (get_or a 2 nan))
+    (6 * r + 3) (get_or b 0 nan))
+    (6 * r + 4) (get_or b 1 nan))
+    (6 * r + 5) (get_or b 2 nan))
     (6 * (r + 1) + 0)
-turn dt p out r l h =
+turn dt p out r a b l ea eb h =
     let dt2 = times (times half dt) dt in
+    let at : ℕ → List Float → Float = λ k v. get_or v k nan in
     store_row (step_at dt p) out r _ _ _ _ _ _ l
-    (ap (λ (k : ℕ). plus (plus (get_or p k nan) (times dt (get_or p (6 + r) nan))) (times dt2 (get_or p (12 + r) nan))) (sym (zero-add r))
+    (ap (at 0) ea
+    ∙ ap (λ (k : ℕ). plus (plus (get_or p k nan) (times dt (get_or p (6 + r) nan))) (times dt2 (get_or p (12 + r) nan))) (sym (zero-add r))
     ∙ sym (matrix_at _ 0 r (lit< tt) l))
-    (sym (matrix_at _ 1 r (lit< tt) l))
-    (sym (matrix_at _ 2 r (lit< tt) l))
-    (sym (matrix_at _ 3 r (lit< tt) l))
-    (sym (matrix_at _ 4 r (lit< tt) l))
-    (sym (matrix_at _ 5 r (lit< tt) l))
+    (ap (at 1) ea ∙ sym (matrix_at _ 1 r (lit< tt) l))
+    (ap (at 2) ea ∙ sym (matrix_at _ 2 r (lit< tt) l))
+    (ap (at 0) eb ∙ sym (matrix_at _ 3 r (lit< tt) l))
+    (ap (at 1) eb ∙ sym (matrix_at _ 4 r (lit< tt) l))
+    (ap (at 2) eb ∙ sym (matrix_at _ 5 r (lit< tt) l))
     h

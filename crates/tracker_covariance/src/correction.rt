@@ -9,6 +9,7 @@ use crate::states::Band;
 use ieee754::sign::abs;
 
 // s, the variance of the innovation: the phase's own and that of the measurement.
+#[tactic(auto, unfolding(crate::specs::Correction::innovation_variance))]
 pub fn innovation_variance(p: [f64; 36], band: Band, noise: f64) -> f64
     ensures { result ≡ innovation_variance p (phase_of band) noise }
 {
@@ -17,6 +18,7 @@ pub fn innovation_variance(p: [f64; 36], band: Band, noise: f64) -> f64
 }
 
 // Whether a correction takes a gain. A NaN takes none.
+#[tactic(auto, unfolding(crate::specs::Correction::takes_gain))]
 pub fn takes_gain(s: f64) -> bool
     ensures { result ≡ takes_gain s }
 {
@@ -24,6 +26,7 @@ pub fn takes_gain(s: f64) -> bool
 }
 
 // K: the phase's column of P over s.
+#[tactic(auto, unfolding(crate::specs::Correction::gain_of))]
 pub fn gain(p: [f64; 36], band: Band, s: f64) -> [f64; 6]
     ensures { result ≡ gain_of p (phase_of band) s }
 {
@@ -31,14 +34,16 @@ pub fn gain(p: [f64; 36], band: Band, s: f64) -> [f64; 6]
     std::array::from_fn(|r| p[6 * r + i] / s)
 }
 
-// Rust's `v.max(1e-15)`. The comparison is false for a NaN, which so becomes 1e-15.
+// Rust's `v.max(1e-15)`. The comparison is false for a NaN, which so becomes 1e-15. Not by ieee754's `max`, which asks for the NaN first: with it the six
+// variances took 5.2 ns for 3.9.
 pub fn floor_variance(v: f64) -> f64
     ensures { result ≡ maximum v ten_to_minus15 }
 {
     if v >= 1e-15 { v } else { 1e-15 }
 }
 
-// P with each variance at least 1e-15.
+// P with each variance at least 1e-15. By place: with `from_fn` over the 36 it took 86 ns for 3.9, as its loop is not laid out; and of a loop over `iter_mut`
+// with a `step_by` nothing is known of what it wrote.
 pub fn floor_diagonal(p: [f64; 36]) -> [f64; 36]
     ensures { result ≡ floored p }
 {

@@ -3,6 +3,7 @@ ghost use Rattle.std.specs.Prelude.{◌≡◌};
 ghost use Rattle.tracker_covariance.specs.Initial.{initial_covariance};
 
 // The covariance of a tracker that was opened, reset or lost.
+#[tactic(auto, unfolding(crate::specs::Initial::initial_covariance))]
 pub fn initial() -> [f64; 36]
     ensures { result ≡ initial_covariance }
 {

@@ -5,6 +5,7 @@ ghost use Rattle.tracker_covariance.specs.ProcessNoise.{same_frequency, noise_ma
 ghost use Rattle.tracker_covariance.specs.Prediction.{sum_of, mean_of, predicted};
 ghost use Rattle.tracker_covariance.specs.Code.Transposed.{transposed};
 
+use crate::states::moved;
 use ieee754::sign::abs;
 
 // What one step adds to the variances of the first channel's phase, frequency and chirp, and the second frequency over the first.
@@ -24,6 +25,7 @@ pub fn same_frequency(ratio: f64) -> bool
 }
 
 // Q. The frequencies and the chirps of the two channels are coupled where the frequencies differ.
+#[tactic(auto, unfolding(crate::specs::ProcessNoise::noise_matrix))]
 fn noise_matrix(n: ProcessNoise) -> [f64; 36]
     ensures { result ≡ noise_matrix n }
 {
@@ -48,24 +50,20 @@ fn noise_matrix(n: ProcessNoise) -> [f64; 36]
 }
 
 // (F·P)ᵀ: row r is F times column r of P. Done twice, it is F·P·Fᵀ.
+// By rows: a matrix is 36 numbers in a row (the scope), and entry by entry with `from_fn` such a step takes five times as long, as its loop is not laid out.
 fn transition_transposed(p: [f64; 36], dt: f64) -> [f64; 36]
     ensures { result ≡ transposed (by_f dt p) }
 {
-    let dt2 = 0.5 * dt * dt;
     let mut out = [0.0; 36];
     for r in 0..6 {
-        let phase = p[r];
-        let freq = p[6 + r];
-        let chirp = p[12 + r];
-        let phase2 = p[18 + r];
-        let freq2 = p[24 + r];
-        let chirp2 = p[30 + r];
-        out[6 * r] = phase + dt * freq + dt2 * chirp;
-        out[6 * r + 1] = freq + dt * chirp;
-        out[6 * r + 2] = chirp;
-        out[6 * r + 3] = phase2 + dt * freq2 + dt2 * chirp2;
-        out[6 * r + 4] = freq2 + dt * chirp2;
-        out[6 * r + 5] = chirp2;
+        let a = moved(p[r], p[6 + r], p[12 + r], dt);
+        let b = moved(p[18 + r], p[24 + r], p[30 + r], dt);
+        out[6 * r] = a[0];
+        out[6 * r + 1] = a[1];
+        out[6 * r + 2] = a[2];
+        out[6 * r + 3] = b[0];
+        out[6 * r + 4] = b[1];
+        out[6 * r + 5] = b[2];
     }
     out
 }
@@ -77,7 +75,7 @@ fn sum(p: [f64; 36], q: [f64; 36]) -> [f64; 36]
     std::array::from_fn(|k| p[k] + q[k])
 }
 
-// The mean of P and its transpose, which keeps P symmetric.
+// The mean of P and its transpose, which keeps P symmetric. By rows and columns, as `transition_transposed`.
 fn mean(p: [f64; 36]) -> [f64; 36]
     ensures { result ≡ mean_of p }
 {

@@ -1,7 +1,7 @@
 // The six states: phase, frequency and chirp of the first channel, then of the second.
 ghost use Rattle.std.specs.Prelude.{◌≡◌};
 ghost use Rattle.tracker_covariance.specs.States.{phase_of};
-ghost use Rattle.tracker_covariance.specs.Transition.{predicted_state};
+ghost use Rattle.tracker_covariance.specs.Transition.{moved, predicted_state};
 ghost use Rattle.tracker_covariance.specs.Correction.{corrected_state};
 ghost use Rattle.tracker_covariance.specs.declared.states.Band.{Band};
 ghost use Rattle.tracker_covariance.specs.declared.states.Band.TheVariants.{First, Second};
@@ -48,31 +48,28 @@ impl Channel for SecondChannel {
     ghost BAND = { Second };
 }
 
+// F on one channel over the interval dt: its phase, its frequency and its chirp.
+pub fn moved(phase: f64, freq: f64, chirp: f64, dt: f64) -> [f64; 3]
+    ensures { result ≡ moved dt phase freq chirp }
+{
+    let dt2 = 0.5 * dt * dt;
+    [phase + dt * freq + dt2 * chirp, freq + dt * chirp, chirp]
+}
+
 // F·x over the interval dt.
+#[tactic(auto, unfolding(crate::specs::Transition::predicted_state))]
 pub fn predict_state(x: [f64; 6], dt: f64) -> [f64; 6]
     ensures { result ≡ predicted_state dt x }
 {
-    let dt2 = 0.5 * dt * dt;
-    [
-        x[0] + dt * x[1] + dt2 * x[2],
-        x[1] + dt * x[2],
-        x[2],
-        x[3] + dt * x[4] + dt2 * x[5],
-        x[4] + dt * x[5],
-        x[5],
-    ]
+    let a = moved(x[0], x[1], x[2], dt);
+    let b = moved(x[3], x[4], x[5], dt);
+    [a[0], a[1], a[2], b[0], b[1], b[2]]
 }
 
 // x + K·z.
+#[tactic(auto, unfolding(crate::specs::Correction::corrected_state))]
 pub fn correct_state(x: [f64; 6], k: [f64; 6], z: f64) -> [f64; 6]
     ensures { result ≡ corrected_state x k z }
 {
-    [
-        x[0] + k[0] * z,
-        x[1] + k[1] * z,
-        x[2] + k[2] * z,
-        x[3] + k[3] * z,
-        x[4] + k[4] * z,
-        x[5] + k[5] * z,
-    ]
+    std::array::from_fn(|i| x[i] + k[i] * z)
 }

@@ -10,6 +10,7 @@ use tracker_covariance::correction::floor_diagonal;
 use tracker_covariance::states::Channel;
 
 // (I − K·h)·P, h picking the channel's phase.
+// Both by rows and columns: with `from_fn` over the 36 places the two and the mean took 250 ns for 55, as its loop is not laid out.
 fn left<C: Channel>(p: [f64; 36], k: [f64; 6]) -> [f64; 36]
     ensures { result ≡ joseph_left p (phase_of C.BAND) k }
 {
@@ -38,6 +39,7 @@ fn right<C: Channel>(t: [f64; 36], k: [f64; 6], noise: f64) -> [f64; 36]
 }
 
 // The covariance after a correction by the channel with the gain k.
+#[tactic(auto, unfolding(tracker_covariance::specs::Correction::corrected))]
 pub fn correct<C: Channel>(p: [f64; 36], k: [f64; 6], noise: f64) -> [f64; 36]
     ensures { result ≡ corrected p (phase_of C.BAND) k noise }
 {

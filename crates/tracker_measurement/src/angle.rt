@@ -6,6 +6,7 @@ use crate::modulation::Modulation;
 use crate::sample::Point;
 
 // The fourth power, whose angle does not depend on the QPSK symbol.
+#[tactic(auto, unfolding(crate::specs::Angle::fourth_power))]
 fn fourth_power(d: Point) -> Point
     ensures { result ≡ fourth_power d }
 {

@@ -27,8 +27,10 @@ pub struct Received {
     pub r_effective: f64,
 }
 
+// re and im by themselves and no pair, here and above: the definition `measured` has them so, and `used_sample` takes them apart.
 // Compiled into each of its callers, for speed. The amplitude, which does not wait for the phase, comes first.
 #[inline(always)]
+#[tactic(auto, unfolding(crate::specs::Code::Parts::received))]
 pub fn receive(prior: Prior, re: f32, im: f32) -> Received
     ensures { result ≡ received prior re im }
 {
@@ -52,6 +54,7 @@ pub struct Detected {
     pub q_sq: f64,
 }
 
+#[tactic(auto, unfolding(crate::specs::Code::Parts::detected))]
 pub fn detect(m: Modulation, point: Point) -> Detected
     ensures { result ≡ detected m point }
 {
@@ -66,6 +69,7 @@ pub fn detect(m: Modulation, point: Point) -> Detected
 }
 
 // The innovation, wrapped; the in-phase value; the pair for the power ratio; the envelope with this sample in it; R.
+// Not of `Received` and `Detected`: the definition `measured` and those of a correction name these six, and not the turned sample and its error.
 #[derive(Clone, Copy)]
 pub struct Measured {
     pub z: f64,

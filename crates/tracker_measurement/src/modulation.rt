@@ -1,6 +1,6 @@
 // How the signal is modulated, and the range of phases that this leaves.
 ghost use Rattle.std.specs.Prelude.{◌≡◌};
-ghost use Rattle.tracker_measurement.specs.Numbers.{modulation_number};
+ghost use Rattle.tracker_measurement.specs.Numbers.{modulation_number, numbered_modulation};
 ghost use Rattle.tracker_measurement.specs.Phase.{limit, half_limit, wrapped};
 
 use ieee754::remainder::rem_euclid;
@@ -12,14 +12,27 @@ pub enum Modulation {
     Qpsk = 2,
 }
 
-// The scope's number. A function and no method, since crates above name it so.
-pub fn modulation_number(m: Modulation) -> u64
-    ensures { result ≡ modulation_number m }
-{
-    m as u64
+// The modulation that a number stands for: 0 carrier, 1 BPSK, 2 and above QPSK.
+impl From<u64> for Modulation {
+    ghost from_gives = { λ n m. m ≡ numbered_modulation n };
+
+    fn from(n: u64) -> Modulation {
+        match n {
+            0 => Modulation::Carrier,
+            1 => Modulation::Bpsk,
+            _ => Modulation::Qpsk,
+        }
+    }
 }
 
 impl Modulation {
+    // The scope's number.
+    pub fn number(self) -> u64
+        ensures { result ≡ modulation_number self }
+    {
+        self as u64
+    }
+
     // The length of the range.
     fn limit(self) -> f64
         ensures { result ≡ limit self }

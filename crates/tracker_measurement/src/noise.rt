@@ -5,12 +5,14 @@ ghost use Rattle.tracker_measurement.specs.Noise.{envelope, relative_amplitude, 
 use ieee754::order::{clamp, max};
 
 // The running mean of the amplitude.
+#[tactic(auto, unfolding(crate::specs::Noise::envelope))]
 pub fn envelope_of(old: f64, amplitude: f64) -> f64
     ensures { result ≡ envelope old amplitude }
 {
     0.995 * old + 0.005 * amplitude
 }
 
+#[tactic(auto, unfolding(crate::specs::Noise::relative_amplitude))]
 fn relative_amplitude(amplitude: f64, envelope: f64) -> f64
     ensures { result ≡ relative_amplitude amplitude envelope }
 {
@@ -22,6 +24,7 @@ fn relative_amplitude(amplitude: f64, envelope: f64) -> f64
 }
 
 // Larger while the lock is poor.
+#[tactic(auto, unfolding(crate::specs::Noise::snr_factor))]
 fn snr_factor(lock_metric: f64) -> f64
     ensures { result ≡ snr_factor lock_metric }
 {
@@ -30,6 +33,7 @@ fn snr_factor(lock_metric: f64) -> f64
 }
 
 // Larger in a fade.
+#[tactic(auto, unfolding(crate::specs::Noise::fade_factor))]
 fn fade_factor(amplitude: f64, envelope: f64) -> f64
     ensures { result ≡ fade_factor amplitude envelope }
 {
@@ -38,6 +42,7 @@ fn fade_factor(amplitude: f64, envelope: f64) -> f64
 }
 
 // R.
+#[tactic(auto, unfolding(crate::specs::Noise::effective_noise))]
 pub fn effective_noise(r_meas: f64, lock_metric: f64, amplitude: f64, envelope: f64) -> f64
     ensures { result ≡ effective_noise r_meas lock_metric amplitude envelope }
 {

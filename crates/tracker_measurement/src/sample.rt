@@ -6,7 +6,8 @@ use crate::modulation::Modulation;
 use ieee754::sign::abs;
 use ieee754_roots::hypotenuse::hypot;
 
-// A complex number.
+// A complex number. Not the `Complex` of sums, of which two fields and one product would be used here: its contracts speak of the pair of its parts, and the
+// public definitions of a sample of this record.
 #[derive(Clone, Copy)]
 pub struct Point {
     pub re: f64,
@@ -34,6 +35,7 @@ pub fn used_sample(m: Modulation, re: f32, im: f32) -> Point
 }
 
 // The sample turned by -theta.
+#[tactic(auto, unfolding(crate::specs::Sample::derotated))]
 pub fn derotate(theta: f64, s: Point) -> Point
     ensures { result ≡ derotated theta s }
 {
@@ -44,6 +46,7 @@ pub fn derotate(theta: f64, s: Point) -> Point
     }
 }
 
+#[tactic(auto, unfolding(crate::specs::Sample::amplitude))]
 pub fn amplitude_of(s: Point) -> f64
     ensures { result ≡ amplitude s }
 {
@@ -51,6 +54,7 @@ pub fn amplitude_of(s: Point) -> f64
 }
 
 // The two diagonals of a square grid, along which QPSK has its points.
+#[tactic(auto, unfolding(crate::specs::Sample::diagonals))]
 fn along_diagonals(d: Point) -> Point
     ensures { result ≡ diagonals d }
 {

@@ -19,7 +19,6 @@ use tracker_covariance::states::{Band, correct_state};
 use tracker_measurement::angle::in_phase;
 use tracker_measurement::measure::{detect, receive};
 use tracker_measurement::modulation::Modulation;
-use tracker_power_ratio::ratio_of;
 
 // The states moved by the gain, the phase wrapped.
 fn move_state(x: [f64; 6], k: Gain, z: f64, m: Modulation) -> [f64; 6]
@@ -33,7 +32,7 @@ fn move_state(x: [f64; 6], k: Gain, z: f64, m: Modulation) -> [f64; 6]
 fn settle_at(t: CarrierPllEkf, v: [f64; 6], norm_re: f64) -> CarrierPllEkf
     ensures { result ≡ settled (with_state t (limited v 0)) norm_re (ratio t.power.sum_abs_i t.power.sum_q_sq) }
 {
-    let pr = ratio_of(t.power.sum_abs_i, t.power.sum_q_sq);
+    let pr = t.power.ratio();
     let u = CarrierPllEkf {
         x: limit(v, Band::First),
         ..t
@@ -42,7 +41,7 @@ fn settle_at(t: CarrierPllEkf, v: [f64; 6], norm_re: f64) -> CarrierPllEkf
 }
 
 impl Single {
-    // One sample. Where a number gets so large that the halves would not stay apart, or a NaN comes up, nothing is done. The order is for speed:
+    // One sample. w is a slice and no array of 2,048: the scope has a channel lend `&mut w[2048*i..2048*(i+1)]` of its memory. Where a number gets so large that the halves would not stay apart, or a NaN comes up, nothing is done. The order is for speed:
     // the covariance is corrected before the phase error is asked for, and the in-phase value, for which no state waits, comes last, so that the
     // next sample's angle is computed beside it.
     pub fn update(self, w: &mut [f64], sample: (f32, f32)) -> Option<Single>

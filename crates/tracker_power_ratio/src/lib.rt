@@ -42,34 +42,37 @@ fn move_sum(sum: f64, new: f64, leaving: Option<f64>) -> f64
     }
 }
 
-// A pair enters the ring, in the place of the oldest once it is full.
-// No method of the sums: the ring is memory that the caller lends, and changes with them.
-pub fn push(s: PowerSums, w: &mut [f64], abs_i: f64, q_sq: f64) -> PowerSums
-    requires { length w.old ≡ 2048 }
-    ensures { (result, w.new) ≡ pushed s w.old abs_i q_sq }
-{
-    let n = s.pushed;
-    let full = 1024 <= n;
-    let k = 2 * (n % 1024);
-    let leaving_abs_i = full.then_some(w[k]);
-    let leaving_q_sq = full.then_some(w[k + 1]);
-    w[k] = abs_i;
-    w[k + 1] = q_sq;
-    PowerSums {
-        pushed: next_count(n),
-        sum_abs_i: move_sum(s.sum_abs_i, abs_i, leaving_abs_i),
-        sum_q_sq: move_sum(s.sum_q_sq, q_sq, leaving_q_sq),
+impl PowerSums {
+    // A pair enters the ring, in the place of the oldest once it is full. w is a slice and no array of 2,048: the scope has a channel lend
+    // `&mut w[2048*i..2048*(i+1)]` of its memory.
+    #[tactic(auto, unfolding(crate::specs::PowerRatio::moved_sum, crate::specs::PowerRatio::pushed))]
+    pub fn push(self, w: &mut [f64], abs_i: f64, q_sq: f64) -> PowerSums
+        requires { length w.old ≡ 2048 }
+        ensures { (result, w.new) ≡ pushed self w.old abs_i q_sq }
+    {
+        let n = self.pushed;
+        let full = 1024 <= n;
+        let k = 2 * (n % 1024);
+        let leaving_abs_i = full.then_some(w[k]);
+        let leaving_q_sq = full.then_some(w[k + 1]);
+        w[k] = abs_i;
+        w[k + 1] = q_sq;
+        PowerSums {
+            pushed: next_count(n),
+            sum_abs_i: move_sum(self.sum_abs_i, abs_i, leaving_abs_i),
+            sum_q_sq: move_sum(self.sum_q_sq, q_sq, leaving_q_sq),
+        }
     }
-}
 
-// The squared I sum over the Q sum. No method of the sums: the scope has it of two numbers, and the count has no part in it.
-#[tactic(auto, unfolding(crate::specs::PowerRatio::ratio))]
-pub fn ratio_of(sum_abs_i: f64, sum_q_sq: f64) -> f64
-    ensures { result ≡ ratio sum_abs_i sum_q_sq }
-{
-    if sum_q_sq > 1e-12 {
-        (sum_abs_i * sum_abs_i) / sum_q_sq
-    } else {
-        1.7976931348623157e308
+    // The squared I sum over the Q sum.
+    #[tactic(auto, unfolding(crate::specs::PowerRatio::ratio))]
+    pub fn ratio(self) -> f64
+        ensures { result ≡ ratio self.sum_abs_i self.sum_q_sq }
+    {
+        if self.sum_q_sq > 1e-12 {
+            (self.sum_abs_i * self.sum_abs_i) / self.sum_q_sq
+        } else {
+            1.7976931348623157e308
+        }
     }
 }

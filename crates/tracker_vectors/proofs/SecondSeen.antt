@@ -1,9 +1,10 @@
 -- The code's correction by a sample of the second channel is the definition's, but for the pair that it answers. Assumes nothing.
-use mathlib.Core.Path.{◌≡◌, refl, ap, ◌∙◌}
+use mathlib.Core.Path.{◌≡◌, refl, sym, ap, ◌∙◌}
 use mathlib.Core.Bool.{Bool, true, false, cond}
 use mathlib.Core.List.{List}
 use Prim.Native.Nat.{ℕ}
 use lib.Ieee.{Float}
+use Rattle.ieee754.specs.Binary64.{zero}
 use Rattle.tracker_covariance.specs.declared.states.Band.TheVariants.{Second}
 use Rattle.tracker_covariance.specs.Initial.{initial_covariance}
 use Rattle.tracker_covariance.specs.Correction.{innovation_variance, takes_gain, gain_of, corrected_state, corrected}
@@ -17,19 +18,19 @@ use Rattle.tracker.specs.declared.correction.Corrected.{Corrected}
 use Rattle.tracker.specs.State.{with_state, with_envelope, lost_tracker}
 use Rattle.tracker.specs.Correction.{prior_of, any_nan, wrapped_phase, limited, corrected_or_lost, gained, band_corrected}
 use Rattle.tracker.specs.Code.Second.{moved, second_moved}
-use Rattle.tracker_vectors.specs.Code.After.{kept_number}
+use Rattle.tracker_vectors.specs.Code.After.{is_kept}
 
 -- all but the pair
 abbrev pub Seen : Type 0
-Seen = ℕ × CarrierPllEkf × List Float
+Seen = Bool × CarrierPllEkf × List Float
 
 abbrev pub seen : Corrected → Seen
-seen d = (kept_number d.answer, d.ekf, d.p)
+seen d = (is_kept d.answer, d.ekf, d.p)
 
 module _ (a b c e : Float) where
   corrected_alike : (t : CarrierPllEkf) (p : List Float) (i : ℕ) (noise : Float) (k y : List Float)
       → seen (corrected_or_lost t p i noise k y (Kept a b)) ≡ seen (corrected_or_lost t p i noise k y (Kept c e))
-  unfolding corrected_or_lost kept_number
+  unfolding corrected_or_lost is_kept
   corrected_alike t p i noise k y = go (any_nan v)
     where
       v : List Float
@@ -45,7 +46,7 @@ module _ (a b c e : Float) where
       go false = refl
 
   moved_alike : (t : CarrierPllEkf) (p : List Float) (i : ℕ) (z noise : Float) → seen (moved t p i z noise (Kept a b)) ≡ seen (moved t p i z noise (Kept c e))
-  unfolding moved kept_number
+  unfolding moved is_kept
   moved_alike t p i z noise = go (takes_gain s)
     where
       s : Float
@@ -76,3 +77,18 @@ second_seen t p w re im a b =
     let u = with_envelope t m.envelope_ema in
     moved_alike a b m.norm_re (ratio u.power.sum_abs_i u.power.sum_q_sq) u p 3 m.z m.r_effective
     ∙ ap seen (gained_moved u p 3 m)
+
+-- each part, where no pair was given
+module _ (t : CarrierPllEkf) (p w : List Float) (re im : Float) where
+  pub second_kept : is_kept (band_corrected t p w Second re im).0.answer ≡ is_kept (second_moved t p zero zero re im).answer
+  second_kept = sym (ap (λ (s : Seen). s.0) (second_seen t p w re im zero zero))
+
+  pub second_ekf : (band_corrected t p w Second re im).0.ekf ≡ (second_moved t p zero zero re im).ekf
+  second_ekf = sym (ap (λ (s : Seen). s.1) (second_seen t p w re im zero zero))
+
+  pub second_p : (band_corrected t p w Second re im).0.p ≡ (second_moved t p zero zero re im).p
+  second_p = sym (ap (λ (s : Seen). s.2) (second_seen t p w re im zero zero))
+
+  pub second_window : (band_corrected t p w Second re im).1 ≡ w
+  unfolding band_corrected
+  second_window = refl

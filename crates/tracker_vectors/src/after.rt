@@ -1,17 +1,16 @@
-// What a line has of a tracker after a step, and whether it stands at the start of what is left of a line.
-ghost use Rattle.std.specs.Prelude.{◌≡◌, length};
-ghost use Rattle.vectors.specs.Code.Lines.{stands_at};
-ghost use Rattle.tracker_vectors.specs.Code.After.{figure_words, tracker_words, after_of, after_words, guarded_words, answer_words, kept_number};
+// What a line has of a tracker after a step, and what is left of a line behind it.
+ghost use Rattle.std.specs.Prelude.{◌≡◌};
+ghost use Rattle.vectors.specs.Code.Lines.{strip, left_of};
+ghost use Rattle.tracker_vectors.specs.Code.After.{figures, tracker_words, after_of, after_words, guarded_words, answer_words, is_kept};
 
 use tracker::correction::Correction;
-use tracker::state::CarrierPllEkf;
-use vectors::line::{Word, rest, stands};
+use tracker::state::{CarrierPllEkf, Tracked};
+use vectors::line::strip;
 
-// A tracker, its covariance, and the pair in the window's slot of the last pair.
+// A tracker, and the pair in the window's slot of the last pair.
 #[derive(Clone, Copy)]
 pub struct After {
-    pub ekf: CarrierPllEkf,
-    pub p: [f64; 36],
+    pub h: Tracked,
     pub abs_i: f64,
     pub q_sq: f64,
 }
@@ -23,85 +22,91 @@ pub struct Answered {
     pub after: After,
 }
 
-// The same beside 1, or 0 where a correction was lost.
+// The same beside whether a correction was kept, of which nothing else is compared.
 #[derive(Clone, Copy)]
 pub struct Marked {
-    pub kept: u64,
+    pub kept: bool,
     pub after: After,
 }
 
-// Metric, envelope, sums and pairs in the window.
-#[tactic(auto, unfolding(crate::specs::Code::After::figure_words))]
-fn figure_words(t: CarrierPllEkf) -> [u64; 5]
-    ensures { result ≡ figure_words t }
+// Metric, envelope and sums.
+#[tactic(auto, unfolding(crate::specs::Code::After::figures))]
+fn figures(t: CarrierPllEkf) -> [f64; 4]
+    ensures { result ≡ figures t }
 {
     [
-        t.lock_metric.pattern(),
-        t.envelope_ema.pattern(),
-        t.power.sum_abs_i.pattern(),
-        t.power.sum_q_sq.pattern(),
-        t.power.pushed.min(1024).pattern(),
+        t.lock_metric,
+        t.envelope_ema,
+        t.power.sum_abs_i,
+        t.power.sum_q_sq,
     ]
 }
 
-#[tactic(auto, unfolding(crate::specs::Code::After::tracker_words))]
-pub fn tracker_stands(a: &[u64], t: CarrierPllEkf, p: [f64; 36]) -> bool
-    ensures { result ≡ stands_at 0 (tracker_words t p) a.now }
+// What is left of a line behind a tracker and its covariance; none where it begins otherwise.
+#[tactic(auto, using(vectors::proofs::LineLaws::strip_both, vectors::proofs::LineLaws::strip_first), unfolding(crate::specs::Code::After::tracker_words))]
+pub fn strip_tracker(words: &[u64], h: Tracked) -> Option<&[u64]>
+    ensures { left_of result ≡ strip (tracker_words h) words.now }
 {
-    let locked = [t.is_locked];
+    let t = h.ekf;
     let x = t.x;
-    let figures = figure_words(t);
-    stands(a, 0, &locked) & stands(a, 1, &x) & stands(a, 7, &p) & stands(a, 43, &figures)
+    let p = h.p;
+    let left = strip(words, &[t.is_locked])?;
+    let left = strip(left, &x)?;
+    let left = strip(left, &p)?;
+    let left = strip(left, &figures(t))?;
+    strip(left, &[t.power.pushed.min(1024)])
 }
 
 impl After {
-    // The window has had n pairs since the tracker's reset.
+    // The window has had n pairs since the tracker's reset. (n is no place in it: a ring's place is made of it here, once.)
     #[tactic(auto, unfolding(crate::specs::Code::After::after_of))]
-    pub fn new(ekf: CarrierPllEkf, p: [f64; 36], w: &[f64; 2048], n: usize) -> After
-        ensures { result ≡ after_of ekf p w.now n }
+    pub fn new(h: Tracked, w: &[f64; 2048], n: usize) -> After
+        ensures { result ≡ after_of h w.now n }
     {
         let k = 2 * (n % 1024);
         After {
-            ekf,
-            p,
+            h,
             abs_i: w[k],
             q_sq: w[k + 1],
         }
     }
 
-    #[tactic(auto, unfolding(crate::specs::Code::After::after_words))]
-    pub fn stands(self, a: &[u64]) -> bool
-        ensures { result ≡ stands_at 0 (after_words self) a.now }
+    // What is left of a line behind it.
+    #[tactic(auto, using(vectors::proofs::LineLaws::strip_both, vectors::proofs::LineLaws::strip_first), unfolding(crate::specs::Code::After::after_words))]
+    pub fn strip_from(self, words: &[u64]) -> Option<&[u64]>
+        ensures { left_of result ≡ strip (after_words self) words.now }
     {
-        let pair = [self.abs_i, self.q_sq];
-        tracker_stands(a, self.ekf, self.p) & stands(a, 48, &pair)
+        let left = strip_tracker(words, self.h)?;
+        strip(left, &[self.abs_i, self.q_sq])
     }
 
     // After an update the guard stands before it.
-    #[tactic(auto, unfolding(crate::specs::Code::After::guarded_words))]
-    pub fn stands_guarded(self, a: &[u64]) -> bool
-        ensures { result ≡ stands_at 0 (guarded_words self) a.now }
+    #[tactic(auto, using(vectors::proofs::LineLaws::strip_both, vectors::proofs::LineLaws::strip_first), unfolding(crate::specs::Code::After::guarded_words))]
+    pub fn strip_guarded_from(self, words: &[u64]) -> Option<&[u64]>
+        ensures { left_of result ≡ strip (guarded_words self) words.now }
     {
-        let guard = [self.ekf.convergence_guard];
-        stands(a, 0, &guard) & self.stands(rest(a, 1))
+        let left = strip(words, &[self.h.ekf.convergence_guard])?;
+        self.strip_from(left)
     }
 }
 
-// What a correction answers.
-#[tactic(auto, unfolding(crate::specs::Code::After::answer_words))]
-pub fn answer_words(c: Correction) -> [u64; 3]
-    ensures { result ≡ answer_words c }
+// What is left of a line behind what a correction answers.
+#[tactic(auto, using(vectors::proofs::LineLaws::strip_both, vectors::proofs::LineLaws::strip_first), unfolding(crate::specs::Code::After::answer_words))]
+pub fn strip_answer(words: &[u64], c: Correction) -> Option<&[u64]>
+    ensures { left_of result ≡ strip (answer_words c) words.now }
 {
     match c {
-        Correction::Kept(norm_re, pr) => [1, norm_re.pattern(), pr.pattern()],
-        Correction::Lost => [0; 3],
+        Correction::Kept(norm_re, pr) => {
+            let left = strip(words, &[1u64])?;
+            strip(left, &[norm_re, pr])
+        }
+        Correction::Lost => strip(words, &[0u64; 3]),
     }
 }
 
-// 1, or 0 where it was lost.
-#[tactic(auto, unfolding(crate::specs::Code::After::kept_number))]
-pub fn kept_number(c: Correction) -> u64
-    ensures { result ≡ kept_number c }
+#[tactic(auto, unfolding(crate::specs::Code::After::is_kept))]
+pub fn is_kept(c: Correction) -> bool
+    ensures { result ≡ is_kept c }
 {
-    matches!(c, Correction::Kept(_, _)) as u64
+    matches!(c, Correction::Kept(_, _))
 }

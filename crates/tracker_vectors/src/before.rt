@@ -1,23 +1,11 @@
 // What a line has of a tracker before a step. b is the line from there on.
 ghost use Rattle.std.specs.Prelude.{◌≡◌};
-ghost use Rattle.tracker_vectors.specs.Code.Before.{modulation_of, tuning_from, power_from, tracker_from, window_from};
+ghost use Rattle.tracker_vectors.specs.Code.Before.{tuning_from, tracker_from, window_from};
 
 use tracker::state::{CarrierPllEkf, Tuning};
 use tracker_measurement::modulation::Modulation;
 use tracker_power_ratio::PowerSums;
-use vectors::line::{Word, array_at};
-
-// Not the function of `channel_open`, which stands above the tracker: this program looks at the tracker alone.
-#[tactic(auto, using(std::proofs::lemmas::Bool::Decides::nat_tests), unfolding(crate::specs::Code::Before::modulation_of))]
-fn modulation_of(n: u64) -> Modulation
-    ensures { result ≡ modulation_of n }
-{
-    match n {
-        0 => Modulation::Carrier,
-        1 => Modulation::Bpsk,
-        _ => Modulation::Qpsk,
-    }
-}
+use vectors::line::{Word, array_in, rest};
 
 // A new tracker's tuning, with the line's measurement noise.
 #[tactic(auto, unfolding(crate::specs::Code::Before::tuning_from, tracker::specs::State::initial_tracker))]
@@ -32,28 +20,21 @@ fn tuning_in(b: &[u64], dual_lock: bool) -> Tuning
     }
 }
 
-#[tactic(auto, unfolding(crate::specs::Code::Before::power_from))]
-fn power_in(b: &[u64]) -> PowerSums
-    ensures { result ≡ power_from b.now }
-{
-    PowerSums {
-        pushed: usize::at(b, 49),
-        sum_abs_i: f64::at(b, 47),
-        sum_q_sq: f64::at(b, 48),
-    }
-}
-
 // The tracker.
-#[tactic(auto, unfolding(crate::specs::Code::Before::tracker_from))]
+#[tactic(auto, unfolding(crate::specs::Code::Before::tracker_from, crate::specs::Code::Before::power_from))]
 pub fn tracker_in(b: &[u64], dual_lock: bool, guard: usize) -> CarrierPllEkf
     ensures { result ≡ tracker_from dual_lock guard b.now }
 {
     CarrierPllEkf {
-        modulation: modulation_of(u64::at(b, 0)),
+        modulation: Modulation::from(u64::at(b, 0)),
         tuning: tuning_in(b, dual_lock),
-        x: array_at(b, 2),
+        x: array_in(rest(b, 2)),
         envelope_ema: f64::at(b, 46),
-        power: power_in(b),
+        power: PowerSums {
+            pushed: usize::at(b, 49),
+            sum_abs_i: f64::at(b, 47),
+            sum_q_sq: f64::at(b, 48),
+        },
         lock_metric: f64::at(b, 45),
         is_locked: bool::at(b, 1),
         convergence_guard: guard,

@@ -2,13 +2,13 @@
 ghost use Rattle.std.specs.Prelude.{◌≡◌};
 ghost use Rattle.tracker_vectors.specs.Code.Lines.{tuning_to_predict, predicted_from, answered_from, marked_from, after_update, reset_from};
 
-use crate::after::{After, Answered, Marked, kept_number};
+use crate::after::{After, Answered, Marked, is_kept};
 use crate::before::{tracker_in, window_in};
 use tracker::first::correct_by_first;
 use tracker::second::correct_by_second;
 use tracker::state::{CarrierPllEkf, Tracked, Tuning};
 use tracker_measurement::modulation::Modulation;
-use vectors::line::{Word, array_at};
+use vectors::line::{Word, array_in, rest};
 
 #[tactic(auto, unfolding(crate::specs::Code::Lines::tuning_to_predict, tracker::specs::State::initial_tracker))]
 fn tuning_to_predict(words: &[u64]) -> Tuning
@@ -33,12 +33,12 @@ pub fn predict_in(words: &[u64]) -> Tracked
 {
     let new = CarrierPllEkf::new(1000.0, Modulation::Carrier);
     let t = CarrierPllEkf {
-        x: array_at(words, 1),
+        x: array_in(rest(words, 1)),
         lock_metric: f64::at(words, 47),
         tuning: tuning_to_predict(words),
         ..new.ekf
     };
-    let p = array_at(words, 7);
+    let p = array_in(rest(words, 7));
     Tracked { ekf: t, p }.predict(f64::at(words, 46))
 }
 
@@ -47,45 +47,45 @@ pub fn first_in(b: &[u64]) -> Answered
     ensures { result ≡ answered_from b.now }
 {
     let ekf = tracker_in(b, false, 0);
-    let p = array_at(b, 8);
+    let p = array_in(rest(b, 8));
     let mut w = window_in(b);
     let d = correct_by_first(Tracked { ekf, p }, &mut w, f32::at(b, 53), f32::at(b, 54));
+    let p = d.p;
     Answered {
         answer: d.answer,
-        after: After::new(d.ekf, d.p, &w, usize::at(b, 49)),
+        after: After::new(Tracked { ekf: d.ekf, p }, &w, usize::at(b, 49)),
     }
 }
 
-// The second channel's correction leaves the window as it was.
-#[tactic(auto, unfolding(crate::specs::Code::Lines::marked_from, crate::specs::Code::Lines::second_from, crate::specs::Code::Before::covariance_from))]
+// The second channel's correction leaves the window as it was. The zeros stand for the pair of the first channel: it goes into the answer's pair alone,
+// which is not compared.
+#[tactic(auto, using(crate::proofs::SecondSeen::second_kept, crate::proofs::SecondSeen::second_ekf, crate::proofs::SecondSeen::second_p, crate::proofs::SecondSeen::second_window), unfolding(crate::specs::Code::Lines::marked_from, crate::specs::Code::Lines::second_from, crate::specs::Code::Before::covariance_from))]
 pub fn second_in(b: &[u64]) -> Marked
     ensures { result ≡ marked_from b.now }
 {
     let ekf = tracker_in(b, false, 0);
-    let p = array_at(b, 8);
+    let p = array_in(rest(b, 8));
     let w = window_in(b);
     let d = correct_by_second(Tracked { ekf, p }, 0.0, 0.0, f32::at(b, 53), f32::at(b, 54));
+    let p = d.p;
     Marked {
-        kept: kept_number(d.answer),
-        after: After::new(d.ekf, d.p, &w, usize::at(b, 49)),
+        kept: is_kept(d.answer),
+        after: After::new(Tracked { ekf: d.ekf, p }, &w, usize::at(b, 49)),
     }
 }
 
+// After one sample, or one of each of two frequencies. The switch and the guard stand before *before*.
 #[tactic(auto, unfolding(crate::specs::Code::Lines::after_update, crate::specs::Code::Lines::updated_from, crate::specs::Code::Before::covariance_from))]
-pub fn update_in(b: &[u64], two: bool, dual_lock: bool, guard: usize) -> After
-    ensures { result ≡ after_update two dual_lock guard b.now }
+pub fn update_in(words: &[u64], second: Option<(f32, f32)>) -> After
+    ensures { result ≡ after_update second words.now }
 {
-    let ekf = tracker_in(b, dual_lock, guard);
-    let p = array_at(b, 8);
+    let b = rest(words, 3);
+    let ekf = tracker_in(b, bool::at(words, 1), usize::at(words, 2));
+    let p = array_in(rest(b, 8));
     let mut w = window_in(b);
     let first = (f32::at(b, 53), f32::at(b, 54));
-    let second = if two {
-        Some((f32::at(b, 56), f32::at(b, 57)))
-    } else {
-        None
-    };
     let r = Tracked { ekf, p }.update(&mut w, first, second);
-    After::new(r.ekf, r.p, &w, usize::at(b, 49))
+    After::new(r, &w, usize::at(b, 49))
 }
 
 // A new tracker with the line's ratio, locked anew.

@@ -1,4 +1,3 @@
--- What stands at a line's places, folds, and counting.
+-- What stands in a line, and lists made by calls.
 pub mod LineLaws
-pub mod Folds
-pub mod CountLaws
+pub mod Made

@@ -2,5 +2,4 @@
 pub mod Words
 pub mod Lines
 pub mod Reads
-pub mod Standing
 pub mod Counts

@@ -8,8 +8,8 @@ pub mod mix;
 pub mod output;
 pub mod tally;
 
-ghost use Rattle.std.specs.Prelude.{◌≡◌, ◌+◌, ◌<◌, ◌≤◌, length};
-ghost use Rattle.vectors.specs.Code.Words.{digit_of, with_digit, word_at};
+ghost use Rattle.std.specs.Prelude.{◌≡◌, ◌<◌, ◌≤◌, length, IfSome};
+ghost use Rattle.vectors.specs.Code.Words.{digit_of, with_digit, word_of};
 
 use crate::output::Stdout;
 use crate::tally::Tally;
@@ -27,23 +27,24 @@ pub fn digit(b: u8) -> u64
     }
 }
 
-// One digit more; of more than 16 the last count.
+// One digit more; of more than 16 digits only the last 16 count.
 #[tactic(auto, unfolding(crate::specs::Code::Words::with_digit))]
-pub fn with_digit(v: u64, b: u8) -> u64
+fn with_digit(v: u64, b: u8) -> u64
     ensures { result ≡ with_digit v b }
 {
     v % 0x1000_0000_0000_0000 * 16 + digit(b)
 }
 
-// The number that stands as 16 digits from the a-th byte on.
-pub fn word_at(line: &[u8], a: usize) -> u64
-    requires { a + 16 ≤ length line.now }
-    ensures { result ≡ word_at a line.now }
+// The number that digits stand for.
+#[tactic(auto, unfolding(crate::specs::Code::Words::word_of))]
+pub fn word_of(digits: &[u8]) -> u64
+    ensures { result ≡ word_of digits.now }
 {
-    line[a..a + 16].iter().fold(0, |v, b| with_digit(v, *b))
+    digits.iter().fold(0, |v, b| with_digit(v, *b))
 }
 
 // What standard input has next: 16 digits and the byte that parts them from what follows, a newline at the end of a line.
+// Not an enum but a mark: the number is taken before it is asked whether it is the last.
 #[derive(Clone, Copy)]
 struct Item {
     value: u64,
@@ -57,45 +58,47 @@ fn next_item() -> Option<Item> {
         return None;
     }
     Some(Item {
-        value: word_at(&item, 0),
+        value: word_of(&item[..16]),
         last: item[16] == b'\n',
     })
 }
 
-// The next line of standard input: its numbers stand at the start of the lent list, as far as that goes, and the answer is how many, 0 at the end
-// of the input. Numbers that find no place are passed over, so that the next line begins where it should. (The bound is there so that the loop is
-// seen to end: no line is as long.)
-pub fn next_line(words: &mut [u64]) -> usize
-    ensures { result ≤ length words.old }
+// The next line of standard input: its numbers, which stand at the start of the lent list as far as that goes; none at the end of the input.
+// Numbers that find no place are passed over, so that the next line begins where it should. n counts those that found one, which not every turn does.
+// No line is as long as the bound, which is there so that the loop is seen to end.
+pub fn next_line(words: &mut [u64]) -> Option<&[u64]>
+    ensures { IfSome result (λ line. length line.now ≤ length words.old) }
 {
     let mut n = 0;
     for _ in 0..0x1_0000_0000_0000u64 {
         let Some(item) = next_item() else {
             break;
         };
-        if n < words.len() {
-            words[n] = item.value;
+        if let Some(word) = words.get_mut(n) {
+            *word = item.value;
             n += 1;
         }
         if item.last {
             break;
         }
     }
-    n
+    if n == 0 {
+        return None;
+    }
+    Some(&words[..n])
 }
 
-// Decides each line of standard input, says which differ, and at the end how many. Of a line as many numbers are read as the lent list holds. (No
-// input has as many lines as the bound.)
+// Decides each line of standard input, says which differ, and at the end how many. Of a line as many numbers are read as the lent list holds.
+// No input has as many lines as the bound, which is there so that the loop is seen to end.
 pub fn replay<F: FnMut(&[u64]) -> bool>(words: &mut [u64], mut agrees: F)
     requires { F.IsAlwaysCallable agrees }
 {
     let mut t = Tally::default();
     for _ in 0..100_000_000u32 {
-        let n = next_line(words);
-        if n == 0 {
+        let Some(line) = next_line(words) else {
             break;
-        }
-        let right = agrees(&words[..n]);
+        };
+        let right = agrees(line);
         t.count(right);
         if !right {
             let _ = writeln!(Stdout, "{} differs", t.lines);

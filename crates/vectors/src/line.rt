@@ -1,12 +1,12 @@
 // What stands in a line of numbers, and whether given values stand there. All are pure functions of the line.
-ghost use Rattle.std.specs.Prelude.{◌≡◌, ◌+◌, ◌<◌, ◌≤◌, List, ℕ, eqb, MatchOption, map, length, drop, refl};
+ghost use Rattle.std.specs.Prelude.{◌≡◌, ◌<◌, ◌≤◌, List, ℕ, eqb, MatchOption, map, length, drop, refl};
 ghost use Rattle.std.specs.Float.{binary32, binary64};
 ghost use Rattle.std.specs.Float.Ieee.{of_bits, to_bits};
-ghost use Rattle.vectors.specs.Code.Lines.{number_at, mark_number, mark_at, single, float64_at, float32_at, values_at, stands_at, ends_at};
+ghost use Rattle.vectors.specs.Code.Lines.{number_at, mark_number, mark_at, single, float64_at, float32_at, values_in, list_in, behind_list, strip, left_of, is_end, is_rest};
 ghost use Rattle.vectors.specs.Code.Reads.{mark_is, float64_is, float32_is};
-ghost use Rattle.vectors.specs.Code.Standing.{standing};
 
 use ieee754::pattern::{f32_from_bits, f32_to_bits, f64_from_bits, f64_to_bits};
+use std::array;
 
 // A value that stands as one number of a line. A float is told apart by its bits, a NaN as one NaN.
 pub trait Word: Copy {
@@ -15,7 +15,7 @@ pub trait Word: Copy {
 
     ghost of_pattern: { ℕ → Self };
 
-    // What stands at a place of a line.
+    // What stands at a place of a line. It is `of_pattern` of the number there, by `at_is`, and has a name of its own since definitions cite it by it.
     ghost at: { ℕ → List ℕ → Self };
 
     fn pattern(self) -> u64
@@ -25,6 +25,7 @@ pub trait Word: Copy {
         ensures { result ≡ of_pattern n };
 
     // Behind the line's end every number is 0.
+    #[tactic(auto, unfolding(crate::specs::Code::Lines::number_at))]
     final fn at(words: &[u64], i: usize) -> Self
         ensures { result ≡ at i words.now }
     {
@@ -131,76 +132,73 @@ impl Word for f32 {
 pub fn rest(words: &[u64], i: usize) -> &[u64]
     ensures { result.now ≡ drop i words.now }
 {
-    let a = i.min(words.len());
-    &words[a..]
+    words.get(i..).unwrap_or(&[])
 }
 
-// N values from place i on.
-// Not `array::from_fn`: its contract speaks of calls, and that each gives what stands in the line was not proved.
-pub fn array_at<W: Word, const N: usize>(words: &[u64], i: usize) -> [W; N]
-    ensures { result ≡ values_at W.at i N words.now }
+// The first N values.
+pub fn array_in<W: Word, const N: usize>(words: &[u64]) -> [W; N]
+    ensures { result ≡ values_in W.at N words.now }
 {
-    let mut list = [W::at(words, i); N];
-    list_at(words, i, &mut list);
-    list
+    array::from_fn(|k| W::at(words, k))
 }
 
-// As many values from place i on as the lent list holds.
-pub fn list_at<W: Word>(words: &[u64], i: usize, list: &mut [W])
-    ensures { list.new ≡ values_at W.at i (length list.old) words.now }
+// As many values as the lent list holds.
+#[tactic(auto, using(crate::proofs::LineLaws::fill_end), unfolding(crate::specs::Code::Lines::values_in, crate::specs::Code::Lines::from_place))]
+pub fn fill<W: Word>(words: &[u64], list: &mut [W])
+    ensures { list.new ≡ values_in W.at (length list.old) words.now }
 {
-    let part = rest(words, i);
     for (k, x) in list.iter_mut().enumerate() {
-        *x = W::at(part, k);
+        *x = W::at(words, k);
     }
 }
 
-// n values from place i on, at the start of lent memory; none where that is too short for them.
-pub fn listed_at<'a, W: Word>(
-    words: &[u64],
-    i: usize,
-    n: u64,
+// A list, which is its count and its values, at the start of lent memory, and what is left of the line behind it; none where the memory is too short.
+// No clause says that it stays then: memory that may be lent on has no value after the call.
+#[tactic(auto, unfolding(crate::specs::Code::Lines::list_in, crate::specs::Code::Lines::behind_list))]
+pub fn list_in<'a, 'b, W: Word>(
+    words: &'b [u64],
     memory: &'a mut [W],
-) -> Option<&'a [W]>
+) -> Option<(&'a mut [W], &'b [u64])>
     ensures { MatchOption result
-        (length memory.old < n)
-        (λ list. (n ≤ length memory.old) × (length list.now ≡ n) × (list.now ≡ values_at W.at i n words.now)) }
+        (length memory.old < number_at 0 words.now)
+        (λ r. (number_at 0 words.now ≤ length memory.old) × (r.0.now ≡ list_in W.at words.now) × (r.1.now ≡ behind_list words.now)) }
 {
-    if (memory.len() as u64) < n {
-        return None;
-    }
-    let list = &mut memory[..n as usize];
-    list_at(words, i, list);
-    Some(list)
+    let n = usize::at(words, 0);
+    let list = memory.get_mut(..n)?;
+    let values = rest(words, 1);
+    fill(values, list);
+    Some((list, rest(values, n)))
 }
 
-// Whether the numbers begin with those that the values stand as.
-// Not `all` over both: what it answers of pairs of any type was not proved.
-fn begins<W: Word>(words: &[u64], expected: &[W]) -> bool
-    ensures { result ≡ standing (map W.pattern expected.now) words.now }
+// What is left of a line behind the expected values; none where it begins otherwise. As a slice's `strip_prefix`, but the values are not numbers yet.
+pub fn strip<'a, W: Word>(words: &'a [u64], expected: &[W]) -> Option<&'a [u64]>
+    ensures { left_of result ≡ strip (map W.pattern expected.now) words.now }
 {
-    if words.len() < expected.len() {
-        return false;
-    }
-    for (x, w) in expected.iter().zip(words) {
-        if x.pattern() != *w {
-            return false;
+    let mut left = words;
+    for x in expected {
+        let [first, others @ ..] = left else {
+            return None;
+        };
+        if *first != x.pattern() {
+            return None;
         }
+        left = others;
     }
-    true
+    Some(left)
 }
 
-// Whether the expected values stand from place i on.
-pub fn stands<W: Word>(words: &[u64], i: usize, expected: &[W]) -> bool
-    ensures { result ≡ stands_at i (map W.pattern expected.now) words.now }
+// Whether a line could be followed, and to its end.
+#[tactic(auto, unfolding(crate::specs::Code::Lines::is_end))]
+pub fn is_end(left: Option<&[u64]>) -> bool
+    ensures { result ≡ is_end (left_of left.entry) }
 {
-    begins(rest(words, i), expected)
+    matches!(left, Some([]))
 }
 
-// Whether the line has just i numbers.
-#[tactic(auto, unfolding(crate::specs::Code::Lines::ends_at))]
-pub fn ends(words: &[u64], i: usize) -> bool
-    ensures { result ≡ ends_at i words.now }
+// Whether the expected values are all that is left of a line.
+#[tactic(auto, unfolding(crate::specs::Code::Lines::is_rest))]
+pub fn is_rest<W: Word>(words: &[u64], expected: &[W]) -> bool
+    ensures { result ≡ is_rest (map W.pattern expected.now) words.now }
 {
-    words.len() == i
+    is_end(strip(words, expected))
 }

@@ -1,6 +1,6 @@
 // A word that stands for many numbers.
 ghost use Rattle.std.specs.Prelude.{◌≡◌};
-ghost use Rattle.sequences.specs.Folds.{fold};
+ghost use Rattle.std.specs.List.{fold};
 ghost use Rattle.vectors.specs.Code.Words.{mixed_number, mixed_by};
 
 use crate::line::Word;

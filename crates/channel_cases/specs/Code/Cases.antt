@@ -3,20 +3,22 @@
 use Rattle.std.specs.Prelude.{Bool, true, false, cond, not, ◌&&◌, ◌||◌, List, [], ◌∷◌, ℕ, ◌+◌, eqb, leb, Float, length, get_or, take, drop}
 use Prim.Native.Char.{code}
 use Rattle.std.specs.Float.Ieee.{eq, lt}
-use Rattle.sequences.specs.Folds.{fold, some}
+use Rattle.std.specs.List.{fold}
+use Rattle.sequences.specs.Folds.{some}
 use Rattle.pass_reader.specs.Bytes.{bytes, fields}
 use Rattle.channel_script.specs.declared.session.Session.{Session}
 use Rattle.channel_script.specs.Code.Letters.{stands_for}
 use Rattle.channel_script.specs.Code.Looking.{quantity_of, rounded_for}
 use Rattle.channel_script.specs.Code.Setting.{set_by}
 use Rattle.channel_script.specs.Code.Playing.{first_session, after_script}
+use Rattle.channel_cases.specs.declared.line.Judged.{Judged}
 use Rattle.channel_cases.specs.Code.Numbers.{decimal_of, pattern_of}
 
 -- "A value is a name, a decimal number, or x and the pattern of an f64": a name ends with a letter. Where there is nothing, no number is meant.
 unfoldable pub value_of : Session → List ℕ → Float
 value_of s [] = quantity_of s []
 value_of s (b ∷ r) =
-    cond (eqb b (code "x")) (pattern_of (b ∷ r)) (cond (leb (code "A") (get_or (b ∷ r) (length r) 0)) (quantity_of s (b ∷ r)) (decimal_of (b ∷ r)))
+    cond (eqb b (code "x")) (pattern_of r) (cond (leb (code "A") (get_or (b ∷ r) (length r) 0)) (quantity_of s (b ∷ r)) (decimal_of (b ∷ r)))
 
 -- "one of = ! < >", as IEEE 754 compares: no number, which a name that stands for nothing has, compares with none.
 unfoldable pub compares_by : ℕ → Float → Float → Bool
@@ -49,12 +51,7 @@ expected_at s w k = compares_by (get_or w k 0) (quantity_of s (take k w)) (round
 unfoldable pub is_right : Session → List ℕ → Bool
 is_right s w = cond (asks w) (expected_at s w (sign_place w)) true
 
--- A case so far: its session, whether it asked something, and whether all that it asked holds
-pub record Judged : Type 0 where
-  pub session : Session
-  pub asked : Bool
-  pub good : Bool
-
+-- a case so far, with one word more
 abbrev pub judged : Judged → List ℕ → Judged
 judged j w =
     record { session = after_word j.session w; asked = j.asked || asks w; good = j.good && is_right j.session w }

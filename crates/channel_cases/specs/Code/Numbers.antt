@@ -1,11 +1,11 @@
 -- Numbers of the text: "a decimal number, or x and the pattern of an f64". Definitions only.
-use Rattle.std.specs.Prelude.{true, false, cond, List, [], ◌∷◌, ℕ, ◌%◌, drop, Float}
+use Rattle.std.specs.Prelude.{true, false, cond, List, [], ◌∷◌, ℕ, ◌%◌, Float}
 use Prim.Native.Char.{code}
 use Rattle.std.specs.Float.{binary64}
 use Rattle.std.specs.Float.Ieee.{neg, of_bits}
 use Rattle.ieee754.specs.Binary64.{plus, times, over, zero, one, ten}
-use Rattle.sequences.specs.Folds.{fold}
-use Rattle.vectors.specs.Code.Words.{with_digit}
+use Rattle.std.specs.List.{fold}
+use Rattle.vectors.specs.Code.Words.{word_of}
 use Rattle.channel_script.specs.Code.Letters.{stands_for}
 use Rattle.channel_script.specs.Code.Looking.{count}
 use Rattle.channel_cases.specs.declared.number.Decimal.{Decimal}
@@ -41,6 +41,6 @@ quotient d = over (cond d.negative (neg d.digits) d.digits) d.unit
 unfoldable pub decimal_of : List ℕ → Float
 decimal_of s = quotient (fold with_byte no_digits s)
 
--- the f64 whose pattern stands as hexadecimal digits after the x
+-- the f64 whose pattern stands as hexadecimal digits
 unfoldable pub pattern_of : List ℕ → Float
-pattern_of s = of_bits binary64 (fold with_digit 0 (drop 1 s))
+pattern_of digits = of_bits binary64 (word_of digits)

@@ -1,6 +1,6 @@
 -- What is looked at in a session, by a letter, or by a place and a letter: a number each, a mark as 0 or 1. In quotation marks stands what the text of
 -- the cases says at its head. Definitions only.
-use Rattle.std.specs.Prelude.{Bool, cond, List, [], ◌∷◌, ◌++◌, map, ℕ, ◌+◌, eqb, pos, get_or, Float, Option, None}
+use Rattle.std.specs.Prelude.{Bool, cond, List, [], ◌∷◌, ◌++◌, map, ℕ, ◌+◌, eqb, pos, get_or, Float, Option, None, Result, Ok, Err, unwrap_or}
 use Prim.Native.Char.{code}
 use Rattle.std.specs.Float.{nan, binary32, binary64}
 use Rattle.std.specs.Float.Ieee.{add, ne, of_int}
@@ -11,9 +11,13 @@ use Rattle.tracker.specs.declared.state.CarrierPllEkf.{CarrierPllEkf}
 use Rattle.channel_model.specs.declared.Answer.{Answer}
 use Rattle.channel_model.specs.declared.Channel.{Channel}
 use Rattle.channel_model.specs.Figures.{figures}
+use Rattle.channel_script.specs.declared.letters.NoLetter.{NoLetter}
+use Rattle.channel_script.specs.declared.place.Place.{Place}
+use Rattle.channel_script.specs.declared.place.Place.TheVariants.{First, Second, Third, Pll}
 use Rattle.channel_script.specs.declared.session.Seen.{Seen}
 use Rattle.channel_script.specs.declared.session.Session.{Session}
-use Rattle.channel_script.specs.Code.Letters.{stands_for, found, letters}
+use Rattle.channel_script.specs.Code.Letters.{found, named, letters}
+use Rattle.channel_script.specs.Code.Places.{place_letters}
 
 -- what a name that stands for nothing has: no number, which equals none
 abbrev pub nothing : Float
@@ -99,30 +103,25 @@ abbrev pub tracker_names : CarrierPllEkf → List (ℕ × Float)
 tracker_names t =
     (code "L", mark t.is_locked) ∷ (code "M", t.lock_metric) ∷ (code "P", get_or t.x 0 nothing) ∷ (code "H", over (get_or t.x 0 nothing) two) ∷ []
 
--- what a letter stands for in the tracker of a place
-unfoldable pub found_in_tracker : Channel → ℕ → ℕ → Option Float
-found_in_tracker c place b =
-    cond (eqb place (code "0")) (found b (tracker_names c.bank.t0.ekf))
-    (cond (eqb place (code "1")) (found b (tracker_names c.bank.t1.ekf))
-    (cond (eqb place (code "2")) (found b (tracker_names c.bank.t2.ekf))
-    (cond (eqb place (code "3")) (found b (tracker_names c.pll.ekf)) None)))
+abbrev pub tracker_at : Channel → Place → CarrierPllEkf
+tracker_at c First = c.bank.t0.ekf
+tracker_at c Second = c.bank.t1.ekf
+tracker_at c Third = c.bank.t2.ekf
+tracker_at c Pll = c.pll.ekf
+
+abbrev pub found_at : Channel → Result Place NoLetter → ℕ → Option Float
+found_at c (Ok place) b = found b (tracker_names (tracker_at c place))
+found_at c (Err e) b = None
 
 -- "A place, 0 to 2 or 3 for pll_tracker", and a letter
-unfoldable pub in_tracker : Channel → ℕ → ℕ → Float
-in_tracker c place b =
-    stands_for place
-    ((code "0", stands_for b (tracker_names c.bank.t0.ekf) nothing)
-    ∷ (code "1", stands_for b (tracker_names c.bank.t1.ekf) nothing)
-    ∷ (code "2", stands_for b (tracker_names c.bank.t2.ekf) nothing)
-    ∷ (code "3", stands_for b (tracker_names c.pll.ekf) nothing)
-    ∷ [])
-    nothing
+abbrev pub found_in_tracker : Channel → ℕ → ℕ → Option Float
+found_in_tracker c place b = found_at c (named place place_letters) b
 
 -- the number that a name stands for
 unfoldable pub quantity_of : Session → List ℕ → Float
 quantity_of s [] = nothing
-quantity_of s (b ∷ []) = stands_for b (one_letter s.seen s.channel) nothing
-quantity_of s (place ∷ b ∷ []) = in_tracker s.channel place b
+quantity_of s (b ∷ []) = unwrap_or (found b (one_letter s.seen s.channel)) nothing
+quantity_of s (place ∷ b ∷ []) = unwrap_or (found_in_tracker s.channel place b) nothing
 quantity_of s (a ∷ b ∷ d ∷ r) = nothing
 
 -- What is expected of a number that a list has, X, Y or A, is an f32, so the nearest one is meant.

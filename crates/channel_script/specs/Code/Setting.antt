@@ -1,25 +1,32 @@
--- What a letter and a number set. Each line names the letter that sets a field; every other letter leaves the field. In quotation marks stands what the
--- text of the cases says at its head. Definitions only.
-use Rattle.std.specs.Prelude.{Bool, cond, ◌&&◌, List, [], ◌∷◌, ℕ, eqb, ltb, Float}
+-- What a letter and a number set. In quotation marks stands what the text of the cases says at its head. Definitions only.
+use Rattle.std.specs.Prelude.{Bool, false, List, [], ◌∷◌, ℕ, Float, Result, Ok, Err}
 use Prim.Native.Char.{code}
 use Rattle.std.specs.Float.{binary32}
 use Rattle.std.specs.Float.Ieee.{eq, to_unsigned}
 use Rattle.ieee754.specs.Binary64.{times, zero, one, two_pi}
 use Rattle.ieee754.specs.Conversion.{convert}
-use Rattle.sequences.specs.Folds.{some}
 use Rattle.tracker.specs.declared.state.CarrierPllEkf.{CarrierPllEkf}
 use Rattle.tracker.specs.declared.state.Tracked.{Tracked}
-use Rattle.tracker.specs.State.{tracker_of}
-use Rattle.bank_model.specs.declared.state.EkfTrackingBank.{EkfTrackingBank}
-use Rattle.bank_model.specs.Values.{bank_of}
 use Rattle.channel_model.specs.declared.Settings.{Settings}
 use Rattle.channel_model.specs.declared.Carriers.{Carriers}
 use Rattle.channel_model.specs.declared.Channel.{Channel}
-use Rattle.channel_model.specs.Values.{channel_of}
 use Rattle.channel_script.specs.declared.session.Lists.{Lists}
-use Rattle.channel_script.specs.declared.session.Plan.{Plan}
 use Rattle.channel_script.specs.declared.session.Session.{Session}
-use Rattle.channel_script.specs.Code.Letters.{letters}
+use Rattle.channel_script.specs.declared.letters.NoLetter.{NoLetter}
+use Rattle.channel_script.specs.declared.place.Place.{Place}
+use Rattle.channel_script.specs.declared.place.Place.TheVariants as place
+use Rattle.channel_script.specs.declared.change.Setting.{Setting}
+use Rattle.channel_script.specs.declared.change.Setting.TheVariants.{Rate, Factor, Modulation, Fade, Ratio, DualLock, Bank, Two}
+use Rattle.channel_script.specs.declared.change.Carrier.{Carrier}
+use Rattle.channel_script.specs.declared.change.Carrier.TheVariants.{Nominal, Target, Target2, Frequency2}
+use Rattle.channel_script.specs.declared.change.ListValue.{ListValue}
+use Rattle.channel_script.specs.declared.change.ListValue.TheVariants.{Flag, First, Second, Windows, Re, Im, Other, Fill}
+use Rattle.channel_script.specs.declared.change.TrackerValue.{TrackerValue}
+use Rattle.channel_script.specs.declared.change.TrackerValue.TheVariants.{LockMark, Metric, Guard, Sums, Frequency}
+use Rattle.channel_script.specs.declared.change.Change.{Change}
+use Rattle.channel_script.specs.declared.change.Change.TheVariants as change
+use Rattle.channel_script.specs.Code.Letters.{named}
+use Rattle.channel_script.specs.Code.Places.{place_of}
 
 -- a number as a whole one, as a switch ("as 0 or 1"), and as an f32
 abbrev pub whole : Float → ℕ
@@ -31,104 +38,99 @@ on v = eq v one
 abbrev pub single : Float → Float
 single v = convert binary32 v
 
--- the new value if the letter is the one that sets it
-abbrev pub set_if {ℓ} : {A : Type ℓ} → ℕ → ℕ → A → A → A
-set_if b letter new old = cond (eqb b letter) new old
+-- "Before open: r rate, f factor, m modulation, s fade in seconds, k ratio; as 0 or 1, d dual lock, b bank, w two frequencies. Before assign, in Hz: n nominal,
+-- t target, u second target, v frequency2. Before the call p: g flag; h, i and j how many numbers the first list, the second and the window memory have; x and
+-- y the first sample, z the second list's first number, e all other numbers. In a built state: K the tracker that is meant, 0 to 2 or 3 for pll_tracker, and of
+-- it L lock mark, M metric, G guard, Q both sums of its window, F frequency in Hz at phase 0; U the tracker in use"
+abbrev pub set_letters : Float → List (ℕ × Change)
+set_letters v =
+    (code "r", change.Setting (Rate (whole v)))
+    ∷ (code "f", change.Setting (Factor (whole v)))
+    ∷ (code "m", change.Setting (Modulation (whole v)))
+    ∷ (code "s", change.Setting (Fade (whole v)))
+    ∷ (code "k", change.Setting (Ratio v))
+    ∷ (code "d", change.Setting (DualLock (on v)))
+    ∷ (code "b", change.Setting (Bank (on v)))
+    ∷ (code "w", change.Setting (Two (on v)))
+    ∷ (code "n", change.Carrier (Nominal v))
+    ∷ (code "t", change.Carrier (Target v))
+    ∷ (code "u", change.Carrier (Target2 v))
+    ∷ (code "v", change.Carrier (Frequency2 v))
+    ∷ (code "g", change.List (Flag (whole v)))
+    ∷ (code "h", change.List (First (whole v)))
+    ∷ (code "i", change.List (Second (whole v)))
+    ∷ (code "j", change.List (Windows (whole v)))
+    ∷ (code "x", change.List (Re (single v)))
+    ∷ (code "y", change.List (Im (single v)))
+    ∷ (code "z", change.List (Other (single v)))
+    ∷ (code "e", change.List (Fill (single v)))
+    ∷ (code "K", change.Meant (place_of (whole v)))
+    ∷ (code "L", change.Tracker (LockMark (on v)))
+    ∷ (code "M", change.Tracker (Metric v))
+    ∷ (code "G", change.Tracker (Guard (whole v)))
+    ∷ (code "Q", change.Tracker (Sums v))
+    ∷ (code "F", change.Tracker (Frequency v))
+    ∷ (code "U", change.InUse (whole v))
+    ∷ []
 
--- "Before open: r rate, f factor, m modulation, s fade in seconds, k ratio; as 0 or 1, d dual lock, b bank, w two frequencies"
-unfoldable pub settings_by : Settings → ℕ → Float → Settings
-settings_by o b v =
-    record {
-      rate = set_if b (code "r") (whole v) o.rate;
-      factor = set_if b (code "f") (whole v) o.factor;
-      modulation = set_if b (code "m") (whole v) o.modulation;
-      adaptive = o.adaptive;
-      dual_lock = set_if b (code "d") (on v) o.dual_lock;
-      bank = set_if b (code "b") (on v) o.bank;
-      two = set_if b (code "w") (on v) o.two;
-      fade = set_if b (code "s") (whole v) o.fade;
-      ratio = set_if b (code "k") v o.ratio;
-    }
+-- ---- what each changes
 
--- "Before assign, in Hz: n nominal, t target, u second target, v frequency2"
-unfoldable pub carriers_by : Carriers → ℕ → Float → Carriers
-carriers_by a b v =
-    record {
-      nominal = set_if b (code "n") v a.nominal;
-      target = set_if b (code "t") v a.target;
-      target2 = set_if b (code "u") v a.target2;
-      frequency2 = set_if b (code "v") v a.frequency2;
-    }
+abbrev pub settings_with : Settings → Setting → Settings
+settings_with o (Rate n) = record o { rate = n }
+settings_with o (Factor n) = record o { factor = n }
+settings_with o (Modulation n) = record o { modulation = n }
+settings_with o (Fade n) = record o { fade = n }
+settings_with o (Ratio x) = record o { ratio = x }
+settings_with o (DualLock m) = record o { dual_lock = m }
+settings_with o (Bank m) = record o { bank = m }
+settings_with o (Two m) = record o { two = m }
 
--- "Before the call p: g flag; h, i and j how many numbers the first list, the second and the window memory have; x and y the first sample, z the second
--- list's first number, e all other numbers"
-unfoldable pub lists_by : Lists → ℕ → Float → Lists
-lists_by l b v =
-    record {
-      flag = set_if b (code "g") (whole v) l.flag;
-      first = set_if b (code "h") (whole v) l.first;
-      second = set_if b (code "i") (whole v) l.second;
-      windows = set_if b (code "j") (whole v) l.windows;
-      re = set_if b (code "x") (single v) l.re;
-      im = set_if b (code "y") (single v) l.im;
-      other = set_if b (code "z") (single v) l.other;
-      fill = set_if b (code "e") (single v) l.fill;
-      jumps = l.jumps;
-    }
+abbrev pub carriers_with : Carriers → Carrier → Carriers
+carriers_with a (Nominal f) = record a { nominal = f }
+carriers_with a (Target f) = record a { target = f }
+carriers_with a (Target2 f) = record a { target2 = f }
+carriers_with a (Frequency2 f) = record a { frequency2 = f }
 
--- "In a built state: K the tracker that is meant, 0 to 2 or 3 for pll_tracker"
-unfoldable pub plan_by : Plan → ℕ → Float → Plan
-plan_by p b v =
-    record {
-      settings = settings_by p.settings b v;
-      carriers = carriers_by p.carriers b v;
-      lists = lists_by p.lists b v;
-      place = set_if b (code "K") (whole v) p.place;
-    }
+abbrev pub lists_with : Lists → ListValue → Lists
+lists_with l (Flag n) = record l { flag = n }
+lists_with l (First n) = record l { first = n }
+lists_with l (Second n) = record l { second = n }
+lists_with l (Windows n) = record l { windows = n }
+lists_with l (Re x) = record l { re = x }
+lists_with l (Im x) = record l { im = x }
+lists_with l (Other x) = record l { other = x }
+lists_with l (Fill x) = record l { fill = x }
 
--- "and of it L lock mark, M metric, G guard, Q both sums of its window, F frequency in Hz at phase 0"
-unfoldable pub tracker_by : CarrierPllEkf → ℕ → Float → CarrierPllEkf
-tracker_by t b v =
-    tracker_of t.modulation t.tuning
-    (set_if b (code "F") (zero ∷ times two_pi v ∷ zero ∷ zero ∷ zero ∷ zero ∷ []) t.x)
-    t.envelope_ema
-    (set_if b (code "Q") (record { pushed = t.power.pushed; sum_abs_i = v; sum_q_sq = v }) t.power)
-    (set_if b (code "M") v t.lock_metric)
-    (set_if b (code "L") (on v) t.is_locked)
-    (set_if b (code "G") (whole v) t.convergence_guard)
+abbrev pub tracker_with : CarrierPllEkf → TrackerValue → CarrierPllEkf
+tracker_with t (LockMark m) = record t { is_locked = m }
+tracker_with t (Metric x) = record t { lock_metric = x }
+tracker_with t (Guard n) = record t { convergence_guard = n }
+tracker_with t (Sums x) = record t { power = record t.power { sum_abs_i = x; sum_q_sq = x } }
+tracker_with t (Frequency f) = record t { x = zero ∷ times two_pi f ∷ zero ∷ zero ∷ zero ∷ zero ∷ [] }
 
-abbrev pub tracked_by : Tracked → ℕ → Float → Tracked
-tracked_by h b v = record { ekf = tracker_by h.ekf b v; p = h.p }
+abbrev pub tracked_with : Tracked → TrackerValue → Tracked
+tracked_with h x = record h { ekf = tracker_with h.ekf x }
 
--- "U the tracker in use"
-unfoldable pub bank_by : EkfTrackingBank → ℕ → ℕ → Float → EkfTrackingBank
-bank_by k place b v =
-    bank_of k.max_fade_steps
-    (cond (eqb place 0) (tracked_by k.t0 b v) k.t0)
-    (cond (eqb place 1) (tracked_by k.t1 b v) k.t1)
-    (cond (eqb place 2) (tracked_by k.t2 b v) k.t2)
-    (set_if b (code "U") (whole v) k.active_idx)
-    k.in_fade
-    k.fade_counter
-    k.terminated_in_fade
+-- only the tracker that is meant
+abbrev pub channel_with : Channel → Place → TrackerValue → Channel
+channel_with c place.First x = record c { bank = record c.bank { t0 = tracked_with c.bank.t0 x } }
+channel_with c place.Second x = record c { bank = record c.bank { t1 = tracked_with c.bank.t1 x } }
+channel_with c place.Third x = record c { bank = record c.bank { t2 = tracked_with c.bank.t2 x } }
+channel_with c place.Pll x = record c { pll = tracked_with c.pll x }
 
-unfoldable pub channel_by : Channel → ℕ → ℕ → Float → Channel
-channel_by c place b v =
-    channel_of c.setup c.status c.carriers
-    (cond (ltb 2 place) (tracked_by c.pll b v) c.pll)
-    (bank_by c.bank place b v)
-    c.ever_locked c.last_snr c.is_locked c.reading
+abbrev pub session_with : Session → Change → Session
+session_with s (change.Setting x) = record s { plan = record s.plan { settings = settings_with s.plan.settings x } }
+session_with s (change.Carrier x) = record s { plan = record s.plan { carriers = carriers_with s.plan.carriers x } }
+session_with s (change.List x) = record s { plan = record s.plan { lists = lists_with s.plan.lists x } }
+session_with s (change.Meant p) = record s { plan = record s.plan { place = p } }
+session_with s (change.Tracker x) = record s { channel = channel_with s.channel s.plan.place x }
+session_with s (change.InUse n) = record s { channel = record s.channel { bank = record s.channel.bank { active_idx = n } } }
 
--- every letter that sets something
-abbrev pub set_letters : List ℕ
-set_letters = letters "rfmskdbwntuvghijxyzeKLMGQFU"
+-- a letter that stands for nothing is remembered
+abbrev pub after_change : Session → Result Change NoLetter → Session
+after_change s (Ok change) = session_with s change
+after_change s (Err e) = record s { known = false }
 
--- "A letter, a colon and a number sets." A letter that stands for nothing is remembered.
+-- "A letter, a colon and a number sets."
 unfoldable pub set_by : Session → ℕ → Float → Session
-set_by s b v =
-    record {
-      known = s.known && some (eqb b) set_letters;
-      plan = plan_by s.plan b v;
-      seen = s.seen;
-      channel = channel_by s.channel s.plan.place b v;
-    }
+set_by s b v = after_change s (named b (set_letters v))

@@ -1,5 +1,5 @@
 -- A channel built from plain numbers, which no calls need make. A tracker is given by what differs from a new one at the channel's rate. Definitions only.
-use Rattle.std.specs.Prelude.{ℕ, ◌+◌, cond, List, drop, Float}
+use Rattle.std.specs.Prelude.{ℕ, ◌+◌, Bool, cond, ◌&&◌, leb, List, length, drop, Float}
 use Rattle.vectors.specs.Code.Lines.{number_at, mark_at, float64_at, float32_at, float64s_at}
 use Rattle.tracker_covariance.specs.Initial.{initial_covariance}
 use Rattle.tracker_measurement.specs.declared.modulation.Modulation.{Modulation}
@@ -16,7 +16,8 @@ use Rattle.channel_model.specs.declared.Channel.{Channel}
 use Rattle.channel_model.specs.declared.Reading.{Reading}
 use Rattle.channel_model.specs.Values.{channel_of}
 use Rattle.channel_model.specs.Opening.{modulation_of, decimated_rate}
-use Rattle.channel_words.specs.Code.Arguments.{carriers_at}
+use Rattle.channel_words.specs.declared.built.Trackers.{Trackers}
+use Rattle.channel_words.specs.Code.Arguments.{given_carriers}
 
 -- ---- a tracker, from its first number on: x (6), whether P follows, P (36) where it does, and ten more
 
@@ -24,9 +25,12 @@ use Rattle.channel_words.specs.Code.Arguments.{carriers_at}
 unfoldable pub ten_at : List ℕ → ℕ
 ten_at w = cond (mark_at 6 w) 43 7
 
--- what stands behind a tracker
+-- how many numbers it takes, and what stands behind it
+unfoldable pub tracker_length : List ℕ → ℕ
+tracker_length w = ten_at w + 10
+
 unfoldable pub behind_tracker : List ℕ → List ℕ
-behind_tracker w = drop (ten_at w + 10) w
+behind_tracker w = drop (tracker_length w) w
 
 -- P, or a new tracker's where it does not follow
 unfoldable pub given_covariance : List ℕ → List Float
@@ -59,37 +63,43 @@ given_status w = cond (mark_at 5 w) Assigned Idle
 unfoldable pub given_reading : List ℕ → Reading
 given_reading w = record { phase = float64_at 18 w; frequency = float64_at 19 w; snr = float64_at 20 w; electrons = float64_at 21 w }
 
--- from place 22 on `pll_tracker` and the bank's three
-unfoldable pub pll_numbers : List ℕ → List ℕ
-pll_numbers w = drop 22 w
+-- from place 22 on `pll_tracker` and the bank's three, w being the line from there on
+unfoldable pub given_trackers : Float → Modulation → List ℕ → Trackers
+given_trackers rate m w =
+    let one = behind_tracker w in
+    let two = behind_tracker one in
+    record { pll = given_tracker rate m w; t0 = given_tracker rate m one; t1 = given_tracker rate m two; t2 = given_tracker rate m (behind_tracker two) }
 
-unfoldable pub first_numbers : List ℕ → List ℕ
-first_numbers w = behind_tracker (pll_numbers w)
+-- whether all their numbers stand in the line, and what stands behind them
+abbrev pub one_whole : List ℕ → Bool
+one_whole w = leb (tracker_length w) (length w)
 
-unfoldable pub second_numbers : List ℕ → List ℕ
-second_numbers w = behind_tracker (first_numbers w)
+unfoldable pub are_whole : List ℕ → Bool
+are_whole w =
+    let one = behind_tracker w in
+    let two = behind_tracker one in
+    one_whole w && (one_whole one && (one_whole two && one_whole (behind_tracker two)))
 
-unfoldable pub third_numbers : List ℕ → List ℕ
-third_numbers w = behind_tracker (second_numbers w)
+unfoldable pub behind_trackers : List ℕ → List ℕ
+behind_trackers w = behind_tracker (behind_tracker (behind_tracker (behind_tracker w)))
 
 -- from place 13 on tracker, in fade, ended, count, fade steps
-unfoldable pub given_bank : Float → Modulation → List ℕ → EkfTrackingBank
-given_bank rate m w =
-    bank_of (number_at 17 w) (given_tracker rate m (first_numbers w)) (given_tracker rate m (second_numbers w)) (given_tracker rate m (third_numbers w))
-    (number_at 13 w) (mark_at 14 w) (number_at 16 w) (mark_at 15 w)
+unfoldable pub given_bank : Trackers → List ℕ → EkfTrackingBank
+given_bank h w =
+    bank_of (number_at 17 w) h.t0 h.t1 h.t2 (number_at 13 w) (mark_at 14 w) (number_at 16 w) (mark_at 15 w)
 
 -- from place 10 on locked, ever locked, last SNR
 unfoldable pub given_channel : List ℕ → Channel
 given_channel w =
     let rate = decimated_rate (number_at 0 w) (number_at 1 w) in
     let m = modulation_of (number_at 2 w) in
-    channel_of (given_setup w) (given_status w) (carriers_at 6 w) (given_tracker rate m (pll_numbers w)) (given_bank rate m w)
+    let h = given_trackers rate m (drop 22 w) in
+    channel_of (given_setup w) (given_status w) (given_carriers (drop 6 w)) h.pll (given_bank h w)
     (mark_at 11 w) (float32_at 12 w) (mark_at 10 w) (given_reading w)
 
--- the channel that is given from place i of a line on
-unfoldable pub channel_at : ℕ → List ℕ → Channel
-channel_at i words = given_channel (drop i words)
+-- whether all its numbers stand in the line, and what stands behind them
+abbrev pub is_whole : List ℕ → Bool
+is_whole w = are_whole (drop 22 w)
 
--- how many numbers it takes
-unfoldable pub given_length : List ℕ → ℕ
-given_length w = 22 + (ten_at (pll_numbers w) + 10) + (ten_at (first_numbers w) + 10) + (ten_at (second_numbers w) + 10) + (ten_at (third_numbers w) + 10)
+abbrev pub behind_channel : List ℕ → List ℕ
+behind_channel w = behind_trackers (drop 22 w)

@@ -1,6 +1,7 @@
 -- Samples by a rule: a carrier that turns by the same angle from pair to pair, with noise. A long block is so written as a few numbers. Every float
 -- operation is rounded by itself. Definitions only.
 use Rattle.std.specs.Prelude.{ℕ, zero, suc, ◌+◌, ◌*◌, ◌%◌, ◌^◌, List, [], ◌∷◌, Float}
+use Rattle.std.specs.List.{flat_map}
 use Rattle.std.specs.Float.{binary32}
 use Rattle.ieee754.specs.Conversion.{convert}
 use Rattle.ieee754.specs.Binary64.{plus, minus, times, over, half}
@@ -33,13 +34,17 @@ next_turn r t =
 unfoldable pub noisy : Rule → Float → ℕ → Float
 noisy r v x = convert binary32 (plus v (times r.noise (noise_of x)))
 
--- n pairs from a turn on, each with the next two numbers of the noise: re, im, re, im, ..
-unfoldable pub ruled_from : Rule → Turn → ℕ → List Float
+-- n pairs from a turn on, each with the next two numbers of the noise
+unfoldable pub ruled_from : Rule → Turn → ℕ → List (List Float)
 ruled_from r t zero = []
 ruled_from r t (suc n) =
     let x = next_noise t.x in
-    noisy r t.re x ∷ noisy r t.im (next_noise x) ∷ ruled_from r (next_turn r t) n
+    (noisy r t.re x ∷ noisy r t.im (next_noise x) ∷ []) ∷ ruled_from r (next_turn r t) n
 
 -- the rule's n pairs
+unfoldable pub ruled_pairs : Rule → ℕ → List (List Float)
+ruled_pairs r n = ruled_from r (first_turn r) n
+
+-- the same as one list: re, im, re, im, ..
 unfoldable pub ruled_samples : Rule → ℕ → List Float
-ruled_samples r n = ruled_from r (first_turn r) n
+ruled_samples r n = flat_map (λ pair. pair) (ruled_pairs r n)

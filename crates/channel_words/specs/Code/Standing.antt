@@ -1,12 +1,11 @@
 -- A channel as it stands, as the numbers of a line. Definitions only.
-use Rattle.std.specs.Prelude.{ℕ, Bool, cond, not, List, [], ◌∷◌, ◌++◌, Float}
+use Rattle.std.specs.Prelude.{ℕ, cond, not, List, [], ◌∷◌, ◌++◌}
 use Rattle.std.specs.Float.{binary32, binary64}
 use Rattle.std.specs.Float.Ieee.{to_bits}
-use Rattle.sequences.specs.Folds.{fold}
+use Rattle.std.specs.List.{fold}
 use Rattle.vectors.specs.Code.Words.{mixed}
 use Rattle.tracker.specs.declared.state.Tracked.{Tracked}
 use Rattle.bank_model.specs.declared.state.EkfTrackingBank.{EkfTrackingBank}
-use Rattle.channel_model.specs.declared.Status.{Status}
 use Rattle.channel_model.specs.declared.Carriers.{Carriers}
 use Rattle.channel_model.specs.declared.Channel.{Channel}
 use Rattle.channel_model.specs.declared.Reading.{Reading}
@@ -27,8 +26,8 @@ tracker_words h =
     mark_number t.is_locked ∷ to_bits binary64 t.lock_metric ∷ t.power.pushed ∷ t.convergence_guard ∷ tracker_mix h ∷ []
 
 -- assigned, locked, ever locked, last SNR
-unfoldable pub mark_words : Status → Bool → Bool → Float → List ℕ
-mark_words s locked ever last = mark_number (not (idle s)) ∷ mark_number locked ∷ mark_number ever ∷ to_bits binary32 last ∷ []
+unfoldable pub mark_words : Channel → List ℕ
+mark_words c = mark_number (not (idle c.status)) ∷ mark_number c.is_locked ∷ mark_number c.ever_locked ∷ to_bits binary32 c.last_snr ∷ []
 
 -- phase, frequency, SNR, electron content
 unfoldable pub reading_words : Reading → List ℕ
@@ -46,9 +45,8 @@ bank_words b = fade_words b ++ tracker_words b.t0 ++ tracker_words b.t1 ++ track
 
 -- a channel without its bank
 unfoldable pub pll_words : Channel → List ℕ
-pll_words c =
-    mark_words c.status c.is_locked c.ever_locked c.last_snr ++ reading_words c.reading ++ carrier_words c.carriers ++ tracker_words c.pll
+pll_words c = mark_words c ++ reading_words c.reading ++ carrier_words c.carriers ++ tracker_words c.pll
 
 -- 37 numbers with a bank; 17 without one, since the Rust then has none
 unfoldable pub standing_words : Channel → List ℕ
-standing_words c = pll_words c ++ cond c.setup.bank (bank_words c.bank) []
+standing_words c = cond c.setup.bank (pll_words c ++ bank_words c.bank) (pll_words c)

@@ -3,9 +3,8 @@ use mathlib.Core.Path.{◌≡◌, sym, ap, ◌∙◌, subst}
 use mathlib.Core.Bool.{Bool, false, cond, ◌||◌}
 use lib.Dec.{T}
 use lib.Ieee.{Float, nan, binary64, fits, is_nan}
-use lib.Ieee.Compare.{differs_from_itself}
 use Rattle.ieee754.specs.Sign.{absolute, sign_bit, signed}
-use Rattle.ieee754.proofs.Fields.{yes, equals_itself, nan_no}
+use Rattle.ieee754.proofs.Fields.{nan_found}
 use Rattle.elementary_arctangent.specs.Promise.{Arctangent}
 use Rattle.elementary_arctangent.specs.Steps.{atan2_of}
 use Rattle.elementary_arctangent.specs.Code.Tests.{upper_angle, atan2_by_tests}
@@ -39,20 +38,17 @@ steps_are y x p q e =
     e
     ∙ sym (ap (λ (k : Bool). cond (k || is_nan x) nan (signed (sign_bit y) (upper_angle (sign_bit x) (absolute y) (absolute x)))) p ∙ ap (λ (k : Bool). cond k nan (signed (sign_bit y) (upper_angle (sign_bit x) (absolute y) (absolute x)))) q)
 
-pub returns-then-y : goal.returns-then-y
-returns-then-y c =
-    let both = both (goal.at.returns-then-y c).Start (y_nan c.args.y c.args.x (differs_from_itself c.args.y (yes c.if-y.true))) in
+pub returns-then-is_nan : goal.returns-then-is_nan
+returns-then-is_nan c =
+    let both = both (goal.at.returns-then-is_nan c).Start (y_nan c.args.y c.args.x (nan_found c.args.y c.is_nan.ensures.value c.if-is_nan.true)) in
     record { bits = both.0; promised = both.1 }
 
-pub returns-then-x : goal.returns-then-x
-returns-then-x c =
-    let both = both (goal.at.returns-then-x c).Start (x_nan c.args.y c.args.x (nan_no c.args.y c.if-y.false) (differs_from_itself c.args.x (yes c.if-x.true))) in
+pub returns-then-is_nan-2 : goal.returns-then-is_nan-2
+returns-then-is_nan-2 c =
+    let both = both (goal.at.returns-then-is_nan-2 c).Start (x_nan c.args.y c.args.x (sym c.is_nan.ensures.value ∙ c.if-is_nan.false) (nan_found c.args.x c.is_nan-2.ensures.value c.if-is_nan-2.true)) in
     record { bits = both.0; promised = both.1 }
-
-pub angle-requires : goal.angle-requires
-angle-requires c = (equals_itself c.args.y c.if-y.false, equals_itself c.args.x c.if-x.false)
 
 pub returns : goal.returns
 returns c =
-    let both = both (goal.at.returns c).Start (steps_are c.args.y c.args.x (nan_no c.args.y c.if-y.false) (nan_no c.args.x c.if-x.false) c.angle.ensures) in
+    let both = both (goal.at.returns c).Start (steps_are c.args.y c.args.x (sym c.is_nan.ensures.value ∙ c.if-is_nan.false) (sym c.is_nan-2.ensures.value ∙ c.if-is_nan-2.false) c.angle.ensures) in
     record { bits = both.0; promised = both.1 }

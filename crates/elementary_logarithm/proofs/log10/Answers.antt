@@ -2,9 +2,8 @@
 use mathlib.Core.Path.{◌≡◌, refl, sym, ◌∙◌, subst}
 use mathlib.Core.Bool.{true, false, true≢false}
 use lib.Dec.{T}
-use lib.Ieee.{Float, nan, inf, fin, binary64, fits, neg, eq, div, of_bits}
-use lib.Ieee.Compare.{differs_from_itself}
-use Rattle.ieee754.proofs.Fields.{yes, no, nan_no}
+use lib.Ieee.{Float, nan, inf, fin, binary64, fits, eq, of_bits}
+use Rattle.ieee754.proofs.Fields.{nan_found}
 use Rattle.elementary_logarithm.specs.Steps.{log10_of}
 use Rattle.elementary_logarithm.specs.Promise.{CommonLogarithm}
 use Rattle.elementary_logarithm.proofs.Cases.{nan_is, zero_is, negative_is, infinity_is, other_is, promised, asked}
@@ -25,38 +24,35 @@ is_infinite (inf true) h = absurd (true≢false (sym h))
 is_infinite (inf false) h = refl
 is_infinite (fin s m e) h = absurd (true≢false (sym h))
 
+pub returns-then-is_nan : goal.returns-then-is_nan
+returns-then-is_nan c =
+    let both = both c.args.x (held (goal.at.returns-then-is_nan c).Start) c.args.x (nan_is c.args.x (nan_found c.args.x c.is_nan.ensures.value c.if-is_nan.true)) in
+    record { bits = both.0; promised = both.1 }
+
 pub returns-then-x : goal.returns-then-x
+unfolding of_bits
 returns-then-x c =
-    let both = both c.args.x (held (goal.at.returns-then-x c).Start) c.args.x (nan_is c.args.x (differs_from_itself c.args.x (yes c.if-x.true))) in
+    let both = both c.args.x (held (goal.at.returns-then-x c).Start) _ (zero_is c.args.x (sym c.is_nan.ensures.value ∙ c.if-is_nan.false) c.if-x.true) in
     record { bits = both.0; promised = both.1 }
 
 pub returns-then-x-2 : goal.returns-then-x-2
-unfolding of_bits div neg
+unfolding of_bits
 returns-then-x-2 c =
-    let both = both c.args.x (held (goal.at.returns-then-x-2 c).Start) _ (zero_is c.args.x (nan_no c.args.x c.if-x.false) c.if-x-2.true) in
+    let both = both c.args.x (held (goal.at.returns-then-x-2 c).Start) _ (negative_is c.args.x (sym c.is_nan.ensures.value ∙ c.if-is_nan.false) c.if-x.false c.if-x-2.true) in
     record { bits = both.0; promised = both.1 }
 
 pub returns-then-x-3 : goal.returns-then-x-3
-unfolding of_bits div
+unfolding of_bits
 returns-then-x-3 c =
-    let both = both c.args.x (held (goal.at.returns-then-x-3 c).Start) _ (negative_is c.args.x (nan_no c.args.x c.if-x.false) c.if-x-2.false c.if-x-3.true) in
+    let both = both c.args.x (held (goal.at.returns-then-x-3 c).Start) _ (is_infinite c.args.x c.if-x-3.true ∙ infinity_is c.args.x (sym c.is_nan.ensures.value ∙ c.if-is_nan.false) c.if-x.false c.if-x-2.false c.if-x-3.true) in
     record { bits = both.0; promised = both.1 }
-
-pub returns-then-x-4 : goal.returns-then-x-4
-unfolding of_bits div
-returns-then-x-4 c =
-    let both = both c.args.x (held (goal.at.returns-then-x-4 c).Start) _ (is_infinite c.args.x c.if-x-4.true ∙ infinity_is c.args.x (nan_no c.args.x c.if-x.false) c.if-x-2.false c.if-x-3.false c.if-x-4.true) in
-    record { bits = both.0; promised = both.1 }
-
-pub float_to_bits-b : goal.float_to_bits-b
-float_to_bits-b c = no (nan_no c.args.x c.if-x.false)
 
 pub log_of_bits-requires : goal.log_of_bits-requires
-unfolding of_bits div
-log_of_bits-requires c = asked c.args.x (held (goal.at.log_of_bits-requires c).Start) (nan_no c.args.x c.if-x.false) c.if-x-2.false c.if-x-3.false c.if-x-4.false
+unfolding of_bits
+log_of_bits-requires c = asked c.args.x (held (goal.at.log_of_bits-requires c).Start) (sym c.is_nan.ensures.value ∙ c.if-is_nan.false) c.if-x.false c.if-x-2.false c.if-x-3.false
 
 pub returns : goal.returns
-unfolding of_bits div
+unfolding of_bits
 returns c =
-    let both = both c.args.x (held (goal.at.returns c).Start) _ (other_is c.args.x (nan_no c.args.x c.if-x.false) c.if-x-2.false c.if-x-3.false c.if-x-4.false c.log_of_bits.ensures) in
+    let both = both c.args.x (held (goal.at.returns c).Start) _ (other_is c.args.x (sym c.is_nan.ensures.value ∙ c.if-is_nan.false) c.if-x.false c.if-x-2.false c.if-x-3.false c.log_of_bits.ensures) in
     record { bits = both.0; promised = both.1 }

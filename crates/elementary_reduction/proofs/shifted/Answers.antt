@@ -1,7 +1,6 @@
 -- `shifted` meets its contract.
 use mathlib.Core.Path.{sym, subst}
-use Prim.Native.Nat.{ℕ, ◌+◌, ◌*◌, ◌/◌, ◌%◌, ◌^◌, ◌<◌}
-use native.Mathlib.Omega.{arith}
+use Prim.Native.Nat.{ℕ, ◌+◌, ◌*◌, ◌%◌, ◌^◌, ◌<◌}
 use lib.Dec.{lit<}
 use Rattle.elementary_reduction.specs.Code.Rests.{Held}
 use Rattle.elementary_reduction.proofs.ShiftedBits.{low_lt, high_lt, low_is, high_is, start, finish, finish_far}
@@ -11,9 +10,6 @@ use Rattle.elementary_reduction.proofs.shifted.Goals as goal
 -- after the first step
 first : (k : After-remainder-r) → Held (k.args.m * 2 ^ (110 + k.args.n % 20)) k.remainder-r.result
 first k = let s = k.before in start s.args.m s.args.n k.remainder-r.result s.requires.0 k.remainder-r.ensures
-
-few : (n : ℕ) → n < 1280 → n / 20 < 64
-few n h = omega arith
 
 pub remainder-r-requires : goal.remainder-r-requires
 remainder-r-requires c =
@@ -27,9 +23,6 @@ remainder-r-requires c =
 pub returns-then-n-lt20 : goal.returns-then-n-lt20
 returns-then-n-lt20 c =
     finish c.args.m c.args.n c.upper.result c.remainder-r.result c.if-n-lt20.true (first (goal.at.returns-then-n-lt20 c).After-remainder-r) c.upper.ensures
-
-pub shifted-requires : goal.shifted-requires
-shifted-requires c = few c.args.n c.requires.1
 
 pub returns : goal.returns
 returns c =

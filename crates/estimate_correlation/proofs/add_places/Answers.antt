@@ -7,9 +7,6 @@ use Rattle.estimate_correlation.proofs.WindowLaws.{latest_next}
 use Rattle.estimate_correlation.proofs.UpperLaws.{upper_next}
 use Rattle.estimate_correlation.proofs.add_places.Goals as goal
 
-pub loop-re-init : goal.loop-re-init
-loop-re-init g c = (c.requires.none, c.first_window-window.ensures)
-
 pub loop-re-preserved : goal.loop-re-preserved
 loop-re-preserved g c =
     let l = c.loop-re in

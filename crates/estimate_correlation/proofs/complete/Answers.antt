@@ -1,5 +1,5 @@
 -- `complete`: row i - 1 is done now, and no other row changed.
-use Rattle.std.proofs.Common.{◌-◌, List, [], refl, ap, ◌∙◌, length-set, arith, get_or-set_same, get_or-set_other}
+use Rattle.std.proofs.Common.{◌-◌, List, [], ap, ◌∙◌, length-set, arith, get_or-set_same, get_or-set_other}
 use native.Mathlib.Decide.{ℕ_discrete}
 use Rattle.std.specs.Float.{binary64}
 use Rattle.sums.specs.declared.complex.Complex.{Complex}
@@ -7,9 +7,6 @@ use Rattle.sums.specs.Complex.{Cx, div_c}
 use Rattle.sums.specs.Code.Numbers.{number}
 use Rattle.estimate_correlation.proofs.UpperLaws.{mirrored_same}
 use Rattle.estimate_correlation.proofs.complete.Goals as goal
-
-pub loop-i-init : goal.loop-i-init
-loop-i-init c = (c.told-sums, λ k h. refl, λ k h lt. absurd (omega arith))
 
 pub loop-i-preserved : goal.loop-i-preserved
 loop-i-preserved c =
@@ -27,6 +24,3 @@ loop-i-preserved c =
         | no ne ↦ ap (λ (r : List Complex). number r j) (get_or-set_other l.sums i k _ [] ne) ∙ l.invariant.2 k (omega arith) lt j ltj
       ],
     )
-
-pub returns : goal.returns
-returns c = λ i j hi hj. c.loop-i.invariant.2 i (omega arith) hi j hj

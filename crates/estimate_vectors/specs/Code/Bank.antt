@@ -1,12 +1,12 @@
 -- Kind 11, a block of a bank: modulation, two frequencies, nominal, target, target 2, frequency 2, three of (x[0], x[1], x[3], x[4]), fade steps, the
 -- bank before and after (16 numbers each), answer's metric. A bank is three of (locked, metric), tracker, in fade, count, ended, ever locked,
 -- `pll_tracker` locked, locked, phase, frequency, electron content. Definitions only.
-use Rattle.std.specs.Prelude.{List, [], ◌∷◌, Bool, true, cond, ◌&&◌, ℕ, eqb, Float, drop}
+use Rattle.std.specs.Prelude.{List, [], ◌∷◌, Bool, true, cond, ◌&&◌, ℕ, eqb, Float, drop, is_some}
 use Rattle.std.specs.Float.{binary64}
 use Rattle.std.specs.Float.Ieee.{to_bits}
 use Rattle.ieee754.specs.Binary64.{plus, over, one, two, two_pi}
 use Rattle.estimate_dispersion.specs.Dispersion.{dispersion_free, electron_content}
-use Rattle.vectors.specs.Code.Lines.{number_at, mark_at, float64_at, stands_at, ends_at}
+use Rattle.vectors.specs.Code.Lines.{number_at, mark_at, float64_at, ends_at, strip}
 
 -- the tracker's frequency is twice the carrier's with BPSK, which is modulation 1
 unfoldable pub scale_of : ℕ → Float
@@ -39,4 +39,4 @@ bank_words ws =
 
 -- they stand in the bank after the block. Where the channel has not two frequencies, or is not locked after it, nothing is compared
 unfoldable pub bank_agrees : List ℕ → Bool
-bank_agrees ws = ends_at 53 ws && cond (mark_at 2 ws) (cond (mark_at 48 ws) (stands_at 50 (bank_words ws) ws) true) true
+bank_agrees ws = ends_at 53 ws && cond (mark_at 2 ws) (cond (mark_at 48 ws) (is_some (strip (bank_words ws) (drop 50 ws))) true) true

@@ -3,18 +3,13 @@
 -- each as a list: its count, which is 2, and two f32. Definitions only.
 use Rattle.std.specs.Prelude.{List, Bool, true, cond, ℕ, ◌%◌, eqb, Float, replicate}
 use Rattle.ieee754.specs.Binary64.{zero, one, thousand}
-use Rattle.tracker_measurement.specs.declared.modulation.Modulation.{Modulation}
-use Rattle.tracker_measurement.specs.declared.modulation.Modulation.TheVariants.{Carrier, Bpsk, Qpsk}
+use Rattle.tracker_measurement.specs.Numbers.{numbered_modulation}
 use Rattle.tracker_power_ratio.specs.declared.PowerSums.{PowerSums}
 use Rattle.tracker_power_ratio.specs.Ring.{with_pair}
 use Rattle.tracker.specs.declared.state.Tuning.{Tuning}
 use Rattle.tracker.specs.declared.state.CarrierPllEkf.{CarrierPllEkf}
 use Rattle.tracker.specs.State.{tracker_of, initial_tuning}
 use Rattle.vectors.specs.Code.Lines.{number_at, mark_at, float64_at, float64s_at}
-
--- 0 carrier, 1 BPSK, any other QPSK
-unfoldable pub modulation_of : ℕ → Modulation
-modulation_of n = cond (eqb n 0) Carrier (cond (eqb n 1) Bpsk Qpsk)
 
 -- a new tracker's tuning, with the line's measurement noise and a switch
 unfoldable pub tuning_from : Bool → List ℕ → Tuning
@@ -38,7 +33,7 @@ power_from b = record { pushed = number_at 49 b; sum_abs_i = float64_at 47 b; su
 -- the tracker; the switch `dual_lock` and the guard stand elsewhere in the line
 unfoldable pub tracker_from : Bool → ℕ → List ℕ → CarrierPllEkf
 tracker_from dual guard b =
-    tracker_of (modulation_of (number_at 0 b)) (tuning_from dual b) (float64s_at 2 6 b) (float64_at 46 b) (power_from b) (float64_at 45 b) (mark_at 1 b) guard
+    tracker_of (numbered_modulation (number_at 0 b)) (tuning_from dual b) (float64s_at 2 6 b) (float64_at 46 b) (power_from b) (float64_at 45 b) (mark_at 1 b) guard
 
 unfoldable pub covariance_from : List ℕ → List Float
 covariance_from b = float64s_at 8 36 b

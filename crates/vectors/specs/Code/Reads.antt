@@ -1,4 +1,4 @@
--- What stands at a place is what the number there stands for.
+-- What stands at a place is what the number there stands for. They are proved here and not in proofs/, since an item of the code, `at_is`, cites them.
 use Rattle.std.specs.Prelude.{◌≡◌, ℕ, eqb, List, refl}
 use Rattle.std.specs.Float.{binary64}
 use Rattle.std.specs.Float.Ieee.{of_bits}

@@ -2,8 +2,7 @@
 use Rattle.std.specs.Prelude.{List, cond, ℕ, ◌+◌, ◌-◌, ◌*◌, ◌%◌, ◌^◌, leb, ltb, Float}
 use Rattle.std.specs.Float.{binary32, binary64}
 use Rattle.std.specs.Float.Ieee.{to_bits}
-use Rattle.sequences.specs.Folds.{fold}
-use Rattle.sequences.specs.Stretches.{stretch}
+use Rattle.std.specs.List.{fold}
 
 -- the value of a digit, from 0 (48) to 9 (57) or from a (97) to f (102); any other byte counts as 0
 unfoldable pub digit_of : ℕ → ℕ
@@ -14,10 +13,10 @@ unfoldable pub with_digit : ℕ → ℕ → ℕ
 unfolding digit_of
 with_digit v b = v % 2 ^ 60 * 16 + digit_of b
 
--- the number that the 16 digits from the a-th byte on stand for
-unfoldable pub word_at : ℕ → List ℕ → ℕ
+-- the number that digits stand for; of more than 16 only the last 16 count
+unfoldable pub word_of : List ℕ → ℕ
 unfolding with_digit
-word_at a line = fold with_digit 0 (stretch a 16 line)
+word_of digits = fold with_digit 0 digits
 
 -- one number more in a word that stands for many, modulo the prime 2 ^ 59 - 55
 unfoldable pub mixed_number : ℕ → ℕ → ℕ

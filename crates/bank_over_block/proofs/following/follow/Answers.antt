@@ -1,10 +1,6 @@
 -- `follow`: one run for the three where they move as one, else each by itself.
 use Rattle.bank_over_block.proofs.FollowingCases.{followed_once, each_agrees}
-use borrow.Author.Rules.{rules}
 use Rattle.bank_over_block.proofs.following.follow.Goals as goal
-
-pub follow_once-h-requires : goal.follow_once-h-requires
-follow_once-h-requires c = (search rules, (c.moves_as_one.ensures c.if-moves_as_one.true).alike.level)
 
 pub returns-then-moves_as_one : goal.returns-then-moves_as_one
 returns-then-moves_as_one c =

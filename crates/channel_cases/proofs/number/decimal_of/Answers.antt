@@ -1,19 +1,13 @@
--- `decimal_of` meets its contract: the bytes that are left, from what is read so far, come to all of them. Assumes nothing.
-use Rattle.std.proofs.Common.{refl, ap, sym, ◌∙◌, arith}
-use Rattle.sequences.proofs.FoldLaws.{fold_next, fold_end}
-use Rattle.channel_cases.specs.Code.Numbers.{with_byte, quotient, decimal_of}
+-- `decimal_of` meets its contract: the fold of the bytes. Assumes nothing.
+use Rattle.std.proofs.Common.{ap, ◌∙◌, rules, tests}
+use Rattle.std.proofs.lemmas.Iterator.{YieldsList-from_slice}
+use Rattle.std.proofs.lemmas.Iterator.Consumers.{fold_from_yields_List}
+use Rattle.channel_cases.specs.Code.Numbers.{no_digits, with_byte, quotient, decimal_of}
 use Rattle.channel_cases.proofs.number.decimal_of.Goals as goal
-
-pub loop-b-init : goal.loop-b-init
-loop-b-init c = refl
-
-pub loop-b-preserved : goal.loop-b-preserved
-loop-b-preserved c =
-    let l = c.loop-b in
-    fold_next c.args.s.now l.b-index with_byte 0 (omega arith) c.with_byte-d.ensures ∙ l.invariant
 
 pub returns : goal.returns
 unfolding decimal_of
 returns c =
-    let l = c.loop-b in
-    c.quotient.ensures ∙ ap quotient (sym (fold_end c.args.s.now l.b-index with_byte l.d (omega arith)) ∙ l.invariant)
+    let s = c.args.s.now in
+    let digits = fold_from_yields_List _ with_byte no_digits c.fold.result c.fold.ensures.ran (YieldsList-from_slice s cc) (λ a x b q k. search (rules, tests)) in
+    c.quotient.ensures ∙ ap quotient digits

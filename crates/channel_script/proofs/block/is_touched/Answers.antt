@@ -1,20 +1,14 @@
--- `is_touched` meets its contract. Assumes nothing.
-use Rattle.std.proofs.Common.{refl, sym, ◌∙◌, arith}
-use lib.Ieee.{nan, ne, of_bits, of_int}
+-- `is_touched` meets its contract: what the library's `any` answers. Assumes nothing.
+use Rattle.std.proofs.Common.{◌∙◌, rules, tests}
+use Rattle.std.proofs.lemmas.Iterator.{YieldsList-from_slice}
+use Rattle.std.proofs.lemmas.Iterator.Search.{any_from_yields_List}
+use lib.Ieee.{ne, of_bits, of_int}
 use Rattle.channel_script.specs.Code.Blocks.{seven}
-use Rattle.channel_script.proofs.LetterLaws.{some_next, some_end}
+use Rattle.channel_script.proofs.LetterLaws.{some_is}
 use Rattle.channel_script.proofs.block.is_touched.Goals as goal
 
-pub loop-w-init : goal.loop-w-init
-loop-w-init c = refl
-
-pub loop-w-preserved : goal.loop-w-preserved
-unfolding of_bits of_int
-loop-w-preserved c =
-    let a = c.args in
-    some_next a.windows.now c.loop-w.w-index nan (λ w. ne w seven) c.loop-w.touched (omega arith) ∙ c.loop-w.invariant
-
 pub returns : goal.returns
+unfolding of_bits of_int
 returns c =
-    let a = c.args in
-    sym (some_end a.windows.now c.loop-w.w-index (λ w. ne w seven) c.loop-w.touched (omega arith)) ∙ c.loop-w.invariant
+    let w = c.args.windows.now in
+    any_from_yields_List (λ x. ne x seven) _ _ _ c.any.ensures.ran (YieldsList-from_slice w cc) (λ x b q k. search (rules, tests)) ∙ some_is (λ x. ne x seven) w

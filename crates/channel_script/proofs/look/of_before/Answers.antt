@@ -1,11 +1,18 @@
 -- `of_before` meets its contract. Assumes nothing.
-use Rattle.std.proofs.Common.{◌∙◌}
+use Rattle.std.proofs.Common.{◌∙◌, arith}
+use Rattle.channel_script.specs.Code.Letters.{found}
 use Rattle.channel_script.specs.Code.Looking.{answer_names}
 use Rattle.channel_script.proofs.LookLaws.{small_is, small_none}
 use Rattle.channel_script.proofs.look.of_before.Goals as goal
 
-pub returns-then-letter-lt32 : goal.returns-then-letter-lt32
-returns-then-letter-lt32 c = small_none c.args.letter (answer_names c.args.a) c.if-letter-lt32.true
-
 pub returns : goal.returns
-returns c = c.of_answer.ensures ∙ small_is c.args.letter (answer_names c.args.a) c.if-letter-lt32.false
+returns c =
+    let a = c.args in
+    let h = rw c.in_ok-checked_sub.was at c.checked_sub.ensures in
+    c.found.ensures ∙ (λ j. found (h.1 j) (c.answer_names.ensures j)) ∙ small_is a.letter (answer_names a.a) h.0
+
+pub returns-in_err-checked_sub : goal.returns-in_err-checked_sub
+returns-in_err-checked_sub c =
+    let a = c.args in
+    let h = rw c.in_err-checked_sub.was at c.checked_sub.ensures in
+    c.from_residual.ensures ∙ small_none a.letter (answer_names a.a) (omega (arith, h))

@@ -2,31 +2,31 @@
 use mathlib.Core.Path.{◌≡◌, refl, sym, ap, ◌∙◌, subst}
 use mathlib.Core.Bool.{Bool, true, false, not, cond}
 use lib.Dec.{T}
-use lib.Ieee.{Float, binary64, eq, div, is_nan, of_bits, inf}
+use lib.Ieee.{Float, binary64, eq, is_nan, of_bits, inf}
 use lib.Ieee.Positive.{positive}
-use Rattle.ieee754.specs.Binary64.{zero, one, pi, half_pi, quarter_pi, three_quarters_pi}
+use Rattle.ieee754.specs.Binary64.{zero, pi, half_pi, quarter_pi, three_quarters_pi}
 use Rattle.ieee754.specs.Sign.{absolute, plus_zero, sign_bit, signed}
 use Rattle.elementary_arctangent.specs.Steps.{regular_angle}
 use Rattle.elementary_arctangent.specs.Code.Tests.{upper_angle}
 use Rattle.ieee754.proofs.SizeBits.{absolute_no_nan}
 use Rattle.elementary_arctangent.proofs.SignBits.{absolute_sign}
 use Rattle.elementary_arctangent.proofs.Cases.{positive_of}
-use Rattle.elementary_arctangent.proofs.plane.angle.Goals.{After-negative-left, Start}
+use Rattle.elementary_arctangent.proofs.plane.angle.Goals.{After-negative-left, Start, then-a-3-via-then-a-3, then-a-3-via-else-a-3+then-b-2}
 use Rattle.elementary_arctangent.proofs.plane.angle.Goals as goal
 
--- 0.0, and 1.0 / 0.0
+-- 0.0, and INFINITY
 abbrev zero_text : Float
 zero_text = zero
 
 abbrev infinity_text : Float
-infinity_text = div binary64 one zero
+infinity_text = of_bits binary64 0x7ff0_0000_0000_0000
 
 zero_is : zero_text ≡ plus_zero
 unfolding of_bits
 zero_is = refl
 
 infinity_is : infinity_text ≡ (inf false)
-unfolding div of_bits
+unfolding of_bits
 infinity_is = refl
 
 is_zero : (a : Float) {t : Bool} → eq a zero_text ≡ t → eq a plus_zero ≡ t
@@ -99,43 +99,35 @@ module _ (s : After-negative-left) where
   size_of : (z : Float) {w : Float} → T (not (is_nan z)) → w ≡ absolute z → eq w zero_text ≡ false → eq w infinity_text ≡ false → T (positive (absolute z))
   size_of z {w} n e p q = positive_of (absolute z) (absolute_no_nan z n) (absolute_sign z) (ap (λ (k : Float). eq k plus_zero) (sym e) ∙ is_zero w p) (ap (λ (k : Float). eq k (inf false)) (sym e) ∙ is_infinite w q)
 
-pub magnitude-a-requires : goal.magnitude-a-requires
-magnitude-a-requires c = c.requires.0
-
-pub magnitude-b-requires : goal.magnitude-b-requires
-magnitude-b-requires c = c.requires.1
-
-pub negative-below-requires : goal.negative-below-requires
-negative-below-requires c = c.requires.0
-
-pub negative-left-requires : goal.negative-left-requires
-negative-left-requires c = c.requires.1
-
 pub returns-then-a : goal.returns-then-a
-returns-then-a c = moved (goal.at.returns-then-a c).After-negative-left c.with_sign.ensures (at_zero (ay (goal.at.returns-then-a c).After-negative-left) (ax (goal.at.returns-then-a c).After-negative-left) (left (goal.at.returns-then-a c).After-negative-left) c.if-a.true c.either.ensures)
+returns-then-a c = let s = (goal.at.returns-then-a c).After-negative-left in moved s c.with_sign.ensures (at_zero (ay s) (ax s) (left s) c.if-a.true c.either.ensures)
 
 pub returns-then-a-2 : goal.returns-then-a-2
 returns-then-a-2 c =
-    moved (goal.at.returns-then-a-2 c).After-negative-left c.with_sign-then-a-2.ensures (both-far (ay (goal.at.returns-then-a-2 c).After-negative-left) (ax (goal.at.returns-then-a-2 c).After-negative-left) (left (goal.at.returns-then-a-2 c).After-negative-left) c.if-a.false c.if-b.true c.if-a-2.true c.either-then-a-2.ensures)
+    let s = (goal.at.returns-then-a-2 c).After-negative-left in
+    moved s c.with_sign-then-a-2.ensures (both-far (ay s) (ax s) (left s) c.if-a.false c.if-b.true c.if-a-2.true c.either-then-a-2.ensures)
 
 pub returns-then-b : goal.returns-then-b
 returns-then-b c =
-    moved (goal.at.returns-then-b c).After-negative-left c.with_sign-then-b.ensures (far (ay (goal.at.returns-then-b c).After-negative-left) (ax (goal.at.returns-then-b c).After-negative-left) (left (goal.at.returns-then-b c).After-negative-left) c.if-a.false c.if-b.true c.if-a-2.false c.either-then-b.ensures)
+    let s = (goal.at.returns-then-b c).After-negative-left in
+    moved s c.with_sign-then-b.ensures (far (ay s) (ax s) (left s) c.if-a.false c.if-b.true c.if-a-2.false c.either-then-b.ensures)
 
 pub returns-then-a-3 : goal.returns-then-a-3
 returns-then-a-3 c =
-    moved (goal.at.returns-then-a-3 c).After-negative-left c.with_sign-then-a-3.ensures (high (ay (goal.at.returns-then-a-3 c).After-negative-left) (ax (goal.at.returns-then-a-3 c).After-negative-left) (left (goal.at.returns-then-a-3 c).After-negative-left) c.if-a.false c.if-b.false c.if-a-3.true)
-
-pub returns-then-b-2 : goal.returns-then-b-2
-returns-then-b-2 c =
-    moved (goal.at.returns-then-b-2 c).After-negative-left c.with_sign-then-b-2.ensures (upright (ay (goal.at.returns-then-b-2 c).After-negative-left) (ax (goal.at.returns-then-b-2 c).After-negative-left) (left (goal.at.returns-then-b-2 c).After-negative-left) c.if-a.false c.if-b.false c.if-a-3.false c.if-b-2.true)
+    let s = (goal.at.returns-then-a-3 c).After-negative-left in
+    moved s c.with_sign-then-a-3.ensures (elim c.then-a-3.branch [
+      | then-a-3-via-then-a-3 w ↦ high (ay s) (ax s) (left s) c.if-a.false c.if-b.false w.if-a-3.true
+      | then-a-3-via-else-a-3+then-b-2 w ↦ upright (ay s) (ax s) (left s) c.if-a.false c.if-b.false w.if-a-3.false w.if-b-2.true
+    ])
 
 pub regular_angle-requires : goal.regular_angle-requires
-regular_angle-requires c = (
-  size_of (goal.at.regular_angle-requires c).After-negative-left (y (goal.at.regular_angle-requires c).After-negative-left) (start (goal.at.regular_angle-requires c).After-negative-left).requires.0 c.magnitude-a.ensures c.if-a.false c.if-a-3.false,
-  size_of (goal.at.regular_angle-requires c).After-negative-left (x (goal.at.regular_angle-requires c).After-negative-left) (start (goal.at.regular_angle-requires c).After-negative-left).requires.1 c.magnitude-b.ensures c.if-b-2.false c.if-b.false,
-)
+regular_angle-requires c =
+    let s = (goal.at.regular_angle-requires c).After-negative-left in (
+      size_of s (y s) (start s).requires.0 c.magnitude-a.ensures c.if-a.false c.if-a-3.false,
+      size_of s (x s) (start s).requires.1 c.magnitude-b.ensures c.if-b-2.false c.if-b.false,
+    )
 
 pub returns : goal.returns
 returns c =
-    c.regular_angle.ensures ∙ ap (signed (sign_bit (y (goal.at.returns c).After-negative-left))) (whole (goal.at.returns c).After-negative-left (other (ay (goal.at.returns c).After-negative-left) (ax (goal.at.returns c).After-negative-left) (left (goal.at.returns c).After-negative-left) c.if-a.false c.if-b.false c.if-a-3.false c.if-b-2.false))
+    let s = (goal.at.returns c).After-negative-left in
+    c.regular_angle.ensures ∙ ap (signed (sign_bit (y s))) (whole s (other (ay s) (ax s) (left s) c.if-a.false c.if-b.false c.if-a-3.false c.if-b-2.false))

@@ -1,16 +1,12 @@
 -- `plane::signed_unit` meets its contract: the two patterns, by computation.
 use mathlib.Core.Path.{◌≡◌, refl, sym, ap, ◌∙◌, subst}
 use mathlib.Core.Bool.{Bool, true, false, not, cond}
-use Prim.Native.Nat.{ℕ, ◌+◌, ◌^◌, ◌<◌}
-use lib.Dec.{T, lit<}
+use Prim.Native.Nat.{ℕ, ◌+◌, ◌^◌}
+use lib.Dec.{T}
 use lib.Ieee.{binary64, neg, nan_bits, of_bits}
 use Rattle.ieee754.specs.Sign.{sign_bit, signed}
 use Rattle.ieee754.specs.Binary64.{two_to_minus62}
 use Rattle.elementary_arctangent.proofs.plane.signed_unit.Goals as goal
-
-fits_word : (s : Bool) → 0x3c10_0000_0000_0000 + cond s (2 ^ 63) 0 < 2 ^ 64
-fits_word true = lit< tt
-fits_word false = lit< tt
 
 is_number : (s : Bool) → T (not (nan_bits binary64 (0x3c10_0000_0000_0000 + cond s (2 ^ 63) 0)))
 unfolding nan_bits
@@ -21,9 +17,6 @@ unit_is : (s : Bool) → of_bits binary64 (0x3c10_0000_0000_0000 + cond s (2 ^ 6
 unfolding of_bits neg
 unit_is true = refl
 unit_is false = refl
-
-pub overflow_add-result : goal.overflow_add-result
-overflow_add-result c = record { fits = subst (λ (z : ℕ). 0x3c10_0000_0000_0000 + z < 2 ^ 64) (sym c.bit.ensures) (fits_word (sign_bit c.args.y)) }
 
 pub float_from_bits-result : goal.float_from_bits-result
 float_from_bits-result c = subst (λ (z : ℕ). T (not (nan_bits binary64 (0x3c10_0000_0000_0000 + z)))) (sym c.bit.ensures) (is_number (sign_bit c.args.y))

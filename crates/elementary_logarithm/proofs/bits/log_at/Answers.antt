@@ -20,30 +20,30 @@ under_is s p {h} e = ap (λ (z : ℕ). (1073 - p) * z + (12486629536148167 - h))
 from_is : (s p : ℕ) {h : ℕ} → h ≡ natural s → (p - 1074) * 12486629536330718 + h ≡ sum_from s p
 from_is s p {h} e = ap (λ (z : ℕ). (p - 1074) * z + h) (sym log_two_is) ∙ ap (λ (z : ℕ). (p - 1074) * log_two + z) e
 
-below_is : (s p : ℕ) {d g k : ℕ} {v : Float} → p < 1074 → d ≡ sum_under s p → g ≡ common d → k ≡ at_least_one g → v ≡ scaled k two_to_minus54 → neg v ≡ log_at s p
+below_is : (s p : ℕ) {d : ℕ} {v : Float} → p < 1074 → d ≡ sum_under s p → v ≡ scaled (at_least_one (common d)) two_to_minus54 → neg v ≡ log_at s p
 unfolding log_at
-below_is s p l ed eg ek ev = rw (lt-ltb p 1074 l) (ap neg (ev ∙ ap (λ (z : ℕ). scaled z two_to_minus54) (ek ∙ ap at_least_one (eg ∙ ap common ed))))
+below_is s p l ed ev = rw (lt-ltb p 1074 l) (ap neg (ev ∙ ap (λ (z : ℕ). scaled (at_least_one (common z)) two_to_minus54) ed))
 
-above_is : (s p : ℕ) {d g k : ℕ} {v : Float} → 1074 ≤ p → d ≡ sum_from s p → g ≡ common d → k ≡ at_least_one g → v ≡ scaled k two_to_minus54 → v ≡ log_at s p
+above_is : (s p : ℕ) {d : ℕ} {v : Float} → 1074 ≤ p → d ≡ sum_from s p → v ≡ scaled (at_least_one (common d)) two_to_minus54 → v ≡ log_at s p
 unfolding log_at
-above_is s p l ed eg ek ev = rw (le-ltb p 1074 l) (ev ∙ ap (λ (z : ℕ). scaled z two_to_minus54) (ek ∙ ap at_least_one (eg ∙ ap common ed)))
+above_is s p l ed ev = rw (le-ltb p 1074 l) (ev ∙ ap (λ (z : ℕ). scaled (at_least_one (common z)) two_to_minus54) ed)
 
 small : (c : After-natural-h) → c.natural-h.result ≤ 12486629536148167
 small c = le_trans c.natural-h.ensures.1 (le_of_eq table_two_is)
 
-pub overflow_sub-d-then-p-lt1074 : goal.overflow_sub-d-then-p-lt1074
-overflow_sub-d-then-p-lt1074 c = small (goal.at.overflow_sub-d-then-p-lt1074 c).After-natural-h
+pub overflow_sub-h : goal.overflow_sub-h
+overflow_sub-h c = small (goal.at.overflow_sub-h c).After-natural-h
 
 pub returns-then-p-lt1074 : goal.returns-then-p-lt1074
 returns-then-p-lt1074 c =
-    below_is c.args.s c.args.p c.if-p-lt1074.true (under_is c.args.s c.args.p c.natural-h.ensures.0) c.to_common.ensures c.at_least_one-g.ensures c.to_f64.ensures
+    below_is c.args.s c.args.p c.if-p-lt1074.true (under_is c.args.s c.args.p c.natural-h.ensures.0) c.far_common.ensures
 
-pub overflow_add-d-2 : goal.overflow_add-d-2
-overflow_add-d-2 c = record { fits = go c.args.p c.natural-h.result c.requires.2 (small (goal.at.overflow_add-d-2 c).After-natural-h) }
+pub overflow_add-p-2 : goal.overflow_add-p-2
+overflow_add-p-2 c = record { fits = go c.args.p c.natural-h.result c.requires.2 (small (goal.at.overflow_add-p-2 c).After-natural-h) }
   where
     go : (p h : ℕ) → p ≤ 2097 → h ≤ 12486629536148167 → (p - 1074) * 12486629536330718 + h < 2 ^ 64
     go p h a b = omega arith
 
 pub returns : goal.returns
 returns c =
-    above_is c.args.s c.args.p c.if-p-lt1074.false (from_is c.args.s c.args.p c.natural-h.ensures.0) c.to_common-2.ensures c.at_least_one-g-2.ensures c.to_f64-2.ensures
+    above_is c.args.s c.args.p c.if-p-lt1074.false (from_is c.args.s c.args.p c.natural-h.ensures.0) c.far_common-2.ensures

@@ -1,11 +1,10 @@
 -- `elementary_logarithm::series::argument` meets its contract.
 use mathlib.Core.Path.{◌≡◌, ap}
-use Prim.Native.Nat.{ℕ, ◌+◌, ◌-◌, ◌*◌, ◌/◌, ◌^◌, ◌≤◌}
+use Prim.Native.Nat.{ℕ, ◌*◌, ◌≤◌}
 use native.Mathlib.Nat.{le_trans, le_of_eq, lt_of_le_of_lt}
-use lib.Dec.{le→leb, lit<}
-use lib.Ieee.{in_float}
+use lib.Dec.{lit<}
 use Rattle.elementary_logarithm.specs.Steps.{argument}
-use Rattle.elementary_logarithm.proofs.Argument.{u_upto, v_upto, argument_proper, argument_upto}
+use Rattle.elementary_logarithm.proofs.Argument.{argument_proper, argument_upto}
 use Rattle.elementary_logarithm.proofs.series.argument.Goals.{After-ratio}
 use Rattle.elementary_logarithm.proofs.series.argument.Goals as goal
 
@@ -15,14 +14,6 @@ is c = ap (λ (z : ℕ). z * 4) c.ratio.ensures.bits
 
 upto : (c : After-ratio) → c.ratio.result * 4 ≤ 6148914691236517205
 upto c = let s = c.before.before.before in le_trans (le_of_eq (is c)) (argument_upto s.args.s s.requires.0 s.requires.1)
-
-pub int_to_float-u : goal.int_to_float-u
-unfolding in_float
-int_to_float-u c = le→leb (c.args.s - 2 ^ 52) (2 ^ 53) (u_upto c.args.s c.requires.0 c.requires.1)
-
-pub int_to_float-v : goal.int_to_float-v
-unfolding in_float
-int_to_float-v c = le→leb ((c.args.s + 2 ^ 52 + 1) / 2) (2 ^ 53) (v_upto c.args.s c.requires.0 c.requires.1)
 
 pub ratio-requires : goal.ratio-requires
 ratio-requires c = argument_proper c.args.s c.requires.0 c.requires.1

@@ -1,11 +1,8 @@
 -- `limbs::remainder` meets its contract.
 use mathlib.Core.Path.{refl}
-use Prim.Native.Nat.{ℕ, ◌+◌, ◌-◌, ◌/◌, ◌^◌, ◌<◌, ◌≤◌}
-use native.Mathlib.Nat.{mod-lt}
-use native.Mathlib.Omega.{arith}
-use lib.Dec.{lit<, lit≤}
-use lib.Pow.{pow_pos}
-use Rattle.elementary_reduction.proofs.TurnLimbs.{B, T0, T1, T2, T3, quotient, taken, Back, first_back, next_back, room, top_below, carried}
+use Prim.Native.Nat.{ℕ, ◌+◌, ◌/◌, ◌^◌, ◌<◌, ◌≤◌}
+use lib.Dec.{lit<}
+use Rattle.elementary_reduction.proofs.TurnLimbs.{B, T0, T1, T2, T3, quotient, Back, first_back, next_back, carried}
 use Rattle.elementary_reduction.proofs.limbs.remainder.Goals.{After-column-t0, After-column-t1, After-column-t2}
 use Rattle.elementary_reduction.proofs.limbs.remainder.Goals as goal
 
@@ -24,28 +21,6 @@ back1 k = next_back k.args.a.w1 (k.column-t0.result / B) (q k.args.a.w3) T1 k.co
 
 back2 : (k : After-column-t2) → Back (q k.args.a.w3) (k.column-t2.result / B)
 back2 k = next_back k.args.a.w2 (k.column-t1.result / B) (q k.args.a.w3) T2 k.column-t2.result k.requires.2 (few _ k.requires.3) (lit< tt) (back1 k.before) k.column-t2.ensures
-
-left : (x y : ℕ) → y + 2097152 ≤ x → 2097152 ≤ x - y
-left x y h = omega arith
-
-pub column-t0-requires : goal.column-t0-requires
-column-t0-requires c = (c.requires.0, lit≤ tt, lit< tt, taken (q c.args.a.w3) T0 (few _ c.requires.3) (lit< tt))
-
-pub column-t1-requires : goal.column-t1-requires
-column-t1-requires c = (c.requires.1, lit≤ tt, (back0 (goal.at.column-t1-requires c).After-column-t0).most, taken (q c.args.a.w3) T1 (few _ c.requires.3) (lit< tt))
-
-pub column-t2-requires : goal.column-t2-requires
-column-t2-requires c = (c.requires.2, lit≤ tt, (back1 (goal.at.column-t2-requires c).After-column-t1).most, taken (q c.args.a.w3) T2 (few _ c.requires.3) (lit< tt))
-
-pub overflow_sub-a-2 : goal.overflow_sub-a-2
-overflow_sub-a-2 c =
-    let a = c.args.a in
-    left _ _ (room a.w0 a.w1 a.w2 a.w3 c.requires.3 (q a.w3) c.column-t0.result c.column-t1.result c.column-t2.result refl (back2 (goal.at.overflow_sub-a-2 c).After-column-t2))
-
-pub less_turn-requires : goal.less_turn-requires
-less_turn-requires c =
-    let a = c.args.a in
-    (mod-lt _ (pow_pos 41), mod-lt _ (pow_pos 41), mod-lt _ (pow_pos 41), top_below a.w0 a.w1 a.w2 a.w3 c.requires.3 (q a.w3) c.column-t0.result c.column-t1.result c.column-t2.result refl (back2 (goal.at.less_turn-requires c).After-column-t2))
 
 pub returns : goal.returns
 returns c =

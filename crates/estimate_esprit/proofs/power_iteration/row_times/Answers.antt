@@ -1,7 +1,7 @@
 -- `row_times`: the next term is that of numbers k + 1.
 use Rattle.std.proofs.Common.{◌≡◌, ◌+◌, ◌<◌, ◌∙◌, ap, length, take, drop, length-drop, length-take-le, arith, rules}
 use Rattle.std.proofs.lemmas.List.{length_push}
-use Rattle.std.proofs.lemmas.Slice.Zip.{zip_turn, zip_end}
+use Rattle.std.proofs.lemmas.Slice.Zip.{zip_turn}
 use Rattle.std.specs.Iterator.Adapters.{zip_second}
 use Rattle.std.specs.Slice.Iter.{iter_rest}
 use lib.Ieee.{nan, binary64}
@@ -9,7 +9,7 @@ use Rattle.sums.specs.declared.complex.Complex.{Complex}
 use Rattle.sums.specs.Ascending.{sum_from}
 use Rattle.sums.specs.Complex.{Cx, add_c, mul_c}
 use Rattle.sums.specs.Code.Numbers.{parts, number}
-use Rattle.sums.proofs.Adding.{sum_next, sum_end}
+use Rattle.sums.proofs.Adding.{sum_next}
 use Rattle.estimate_esprit.proofs.VectorLaws.{number_later}
 use Rattle.estimate_esprit.proofs.power_iteration.row_times.Goals as goal
 
@@ -32,13 +32,3 @@ loop-r-preserved c =
     ∙ ap (mul_c binary64 (number row (k + 1))) (ap parts (t.3 none) ∙ number_later u k lt) in
     rw (length_push c.loop-r.yielded (c.in-Some.field-0-0, c.in-Some.field-0-1))
     (c.add-sum.ensures ∙ sum_next (add_c binary64) _ _ k c.loop-r.invariant term)
-
-pub returns : goal.returns
-returns c =
-    let row = c.args.row.now in
-    let u = c.args.u.now in
-    let second : iter_rest (zip_second c.zip-r-items.result) ≡ take 9 (drop 1 u) = c.zip-r-items.ensures.second.0 in
-    let e = zip_end (take 9 (drop 1 row)) (take 9 (drop 1 u)) c.loop-r.yielded c.into_iter-r-iterator.result c.loop-r.r-iterator c.next.new.self _ (search rules) (ap (λ z. iter_rest (zip_second z)) c.into_iter-r-iterator.ensures.into_iter_gives ∙ second) c.loop-r.yielded_by c.in-None.is c.next.ensures.steps in
-    let l = length-take-le 9 (drop 1 row) (omega (arith, length-drop 1 row)) in
-    let m = length-take-le 9 (drop 1 u) (omega (arith, length-drop 1 u)) in
-    sum_end (add_c binary64) _ _ (length c.loop-r.yielded) 9 c.loop-r.invariant (omega (arith, e, l, m)) (omega (arith, e, l, m))

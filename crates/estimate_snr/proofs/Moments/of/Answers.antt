@@ -14,7 +14,7 @@ pub loop-re-preserved : goal.loop-re-preserved
 loop-re-preserved c =
     let l = c.loop-re in
     let xs = c.args.samples.now in
-    let e = c.f32_to_f64_with_nan-power.ensures ∙ ap (norm_sqr binary32) (chunk_parts xs (length xs / 2) l.re-index c.as_chunks.ensures.front (omega arith)) in
+    let e = c.from-power.ensures ∙ ap (norm_sqr binary32) (chunk_parts xs (length xs / 2) l.re-index c.as_chunks.ensures.front (omega arith)) in
     (sum_next _ _ _ _ l.invariant.0 e, sum_next _ _ _ _ l.invariant.1 (ap (λ (x : Float). mul binary64 x x) e))
 
 pub returns : goal.returns

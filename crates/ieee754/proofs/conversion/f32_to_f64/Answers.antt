@@ -1,28 +1,15 @@
 -- `ieee754::conversion::f32_to_f64` meets its contract. Assumes nothing.
 use Rattle.std.proofs.Common.{ℕ, true, false, not, T, sym, ap, ◌∙◌, subst, le_of_lt, add_comm, zero-add}
-use lib.Ieee.{binary32, binary64, fits, of_bits, is_nan, nan_bits}
-use lib.Ieee.Fits.{and_i, fits_widens}
-use lib.Ieee.Compare.{differs_from_itself}
-use Rattle.ieee754.proofs.Fields.{zero_by_zero, no_nan, no_nan_plain, equals_itself, by_plus, by_minus}
+use lib.Ieee.{binary32, binary64, fits, of_bits, nan_bits}
+use Rattle.ieee754.proofs.Fields.{nan_64, nan_found, no_nan, by_plus, by_minus}
 use Rattle.ieee754.proofs.conversion.f32_to_f64.Goals.{Start}
 use Rattle.ieee754.proofs.conversion.f32_to_f64.Goals as goal
 
 held : (c : Start) → T (fits binary32 c.args.x)
 held c = subst T (sym c.well_formed.0.1) tt
 
-pub returns-then-x : goal.returns-then-x
-returns-then-x c = zero_by_zero binary64 ∙ sym (differs_from_itself c.args.x (subst T (sym c.if-x.true) tt))
-
-pub float_to_bits-b : goal.float_to_bits-b
-float_to_bits-b c = equals_itself c.args.x c.if-x.false
-
-pub float_to_float-result : goal.float_to_float-result
-float_to_float-result c =
-    let x = c.args.x in
-    and_i (fits binary64 x) (not (is_nan x)) (fits_widens x (held (goal.at.float_to_float-result c).Start)) (equals_itself x c.if-x.false)
-
-pub float_from_bits-result : goal.float_from_bits-result
-float_from_bits-result c = no_nan_plain binary64 c.widen_bits-r.result (le_of_lt c.widen_bits-r.ensures.1)
+pub returns-then-is_nan : goal.returns-then-is_nan
+returns-then-is_nan c = nan_64 ∙ sym (nan_found c.args.x c.is_nan.ensures.value c.if-is_nan.true)
 
 pub returns-then-b-lt2147483648 : goal.returns-then-b-lt2147483648
 returns-then-b-lt2147483648 c =

@@ -28,9 +28,6 @@ returns-then-e-lt897 c =
     shift : (y : ℕ) → y / 2 ^ 52 < 897 → 29 ≤ 926 - y / 2 ^ 52
     shift y h = omega arith
 
-pub overflow_add-result : goal.overflow_add-result
-overflow_add-result c = let h = few (goal.at.overflow_add-result c).After-rounded_quotient-2 in let k = c.if-a-ge5183643171103440896.false in omega arith
-
 pub returns : goal.returns
 returns c =
     let a = c.args.a in

@@ -1,7 +1,7 @@
 -- `ieee754::conversion::rounded_quotient` meets its contract.
 use Rattle.std.proofs.Common.{◌≡◌, ℕ, ◌+◌, ◌*◌, ◌/◌, ◌%◌, ◌^◌, ◌<◌, ◌≤◌, Bool, true, false, cond, not, T, ltb, sym, refl, ap, ◌∙◌, subst, le_trans, le_of_eq, add-zero, arith, ltb→lt, nltb→le}
 use Rattle.ieee754.specs.Code.Quotients.{nearest_quotient, rounding_carry}
-use Rattle.ieee754.proofs.ConversionCases.{unit_pos, rounded_lt, rounded_gt, rounded_eq, quotient_le}
+use Rattle.ieee754.proofs.ConversionCases.{rounded_lt, rounded_gt, rounded_eq, quotient_le}
 use Rattle.ieee754.proofs.conversion.rounded_quotient.Goals as goal
 
 carry_le : (q r h : ℕ) → rounding_carry q r h ≤ 1
@@ -24,12 +24,6 @@ summed m s k S H e =
     go true y p q = add-zero (m / (1 * 2 ^ s % 2 ^ 64)) ∙ rounded_lt m s S H (ltb→lt _ _ (subst T (sym p) tt))
     go false true p q = rounded_gt m s S H (ltb→lt _ _ (subst T (sym q) tt))
     go false false p q = rounded_eq m s S H (nltb→le _ _ (subst (λ (b : Bool). T (not b)) (sym p) tt)) (nltb→le _ _ (subst (λ (b : Bool). T (not b)) (sym q) tt))
-
-pub nonzero_div-q : goal.nonzero_div-q
-nonzero_div-q c = unit_pos c.args.m c.args.s c.requires.1 c.requires.2
-
-pub nonzero_rem-rest : goal.nonzero_rem-rest
-nonzero_rem-rest c = unit_pos c.args.m c.args.s c.requires.1 c.requires.2
 
 pub overflow_add-result : goal.overflow_add-result
 overflow_add-result c =

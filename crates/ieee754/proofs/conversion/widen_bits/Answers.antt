@@ -21,17 +21,8 @@ returns-then-a-eq0 c = (at_zero, omega arith)
     at_zero : (s : Bool) → of_bits binary64 (signed binary64 s 0) ≡ of_bits binary32 (signed binary32 s c.args.a)
     at_zero s = subst (λ (z : ℕ). of_bits binary64 (signed binary64 s 0) ≡ of_bits binary32 (signed binary32 s z)) (sym c.if-a-eq0.true) (zero_widened s)
 
-pub overflow_cast-z : goal.overflow_cast-z
-overflow_cast-z c = let h = low (goal.at.overflow_cast-z c).Else-a-eq0 in omega arith
-
-pub overflow_sub-result : goal.overflow_sub-result
-overflow_sub-result c = let h = low (goal.at.overflow_sub-result c).Else-a-eq0 in omega arith
-
 pub overflow_sub-result-2 : goal.overflow_sub-result-2
 overflow_sub-result-2 c = let h = low (goal.at.overflow_sub-result-2 c).Else-a-eq0 in omega arith
-
-pub overflow_shl-result : goal.overflow_shl-result
-overflow_shl-result c = let h = low (goal.at.overflow_shl-result c).Else-a-eq0 in omega arith
 
 pub overflow_add-result : goal.overflow_add-result
 overflow_add-result c = let g = shifted c.args.a (some (goal.at.overflow_add-result c).Else-a-eq0) (lt_of_lt_of_le c.requires (lit≤ tt)) in omega arith

@@ -1,9 +1,8 @@
 -- `ieee754::integral::round` meets its contract. Assumes nothing.
 use Rattle.std.proofs.Common.{◌≡◌, true, false, T, sym, ap, ◌∙◌, subst}
 use lib.Ieee.{Float, binary64, fits}
-use lib.Ieee.Compare.{differs_from_itself}
 use Rattle.ieee754.specs.Integral.{rounded_away}
-use Rattle.ieee754.proofs.Fields.{equals_itself, by_plus, by_minus}
+use Rattle.ieee754.proofs.Fields.{nan_found, by_plus, by_minus}
 use Rattle.ieee754.proofs.RoundAwayCases.{round_away_nan, stays_whole, away_in, away_plus, away_minus}
 use Rattle.ieee754.proofs.integral.round.Goals.{Start}
 use Rattle.ieee754.proofs.integral.round.Goals as goal
@@ -11,11 +10,8 @@ use Rattle.ieee754.proofs.integral.round.Goals as goal
 held : (c : Start) → T (fits binary64 c.args.x)
 held c = subst T (sym c.well_formed.0.1) tt
 
-pub returns-then-x : goal.returns-then-x
-returns-then-x c = subst (λ (z : Float). z ≡ rounded_away binary64 z) (sym (differs_from_itself c.args.x (subst T (sym c.if-x.true) tt))) (round_away_nan binary64)
-
-pub float_to_bits-b : goal.float_to_bits-b
-float_to_bits-b c = equals_itself c.args.x c.if-x.false
+pub returns-then-is_nan : goal.returns-then-is_nan
+returns-then-is_nan c = subst (λ (z : Float). z ≡ rounded_away binary64 z) (sym (nan_found c.args.x c.is_nan.ensures.value c.if-is_nan.true)) (round_away_nan binary64)
 
 pub returns-then-a-ge4841369599423283200 : goal.returns-then-a-ge4841369599423283200
 returns-then-a-ge4841369599423283200 c = stays_whole binary64 c.args.x (held (goal.at.returns-then-a-ge4841369599423283200 c).Start) c.if-a-ge4841369599423283200.true

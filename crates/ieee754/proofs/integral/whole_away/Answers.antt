@@ -7,9 +7,6 @@ use Rattle.ieee754.proofs.integral.whole_away.Goals as goal
 pub returns-then-e-lt1022 : goal.returns-then-e-lt1022
 returns-then-e-lt1022 c = (λ s. away_small binary64 s c.args.a c.if-e-lt1022.true, omega arith)
 
-pub overflow_add-result : goal.overflow_add-result
-overflow_add-result c = let h = half_small c.args.a c.if-e-lt1022.false in omega arith
-
 pub returns : goal.returns
 returns c =
     let a = c.args.a in

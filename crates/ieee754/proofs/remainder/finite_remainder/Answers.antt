@@ -3,7 +3,7 @@ use Rattle.std.proofs.Common.{◌≡◌, ℕ, ◌-◌, ◌*◌, ◌%◌, ◌^◌
 use lib.Ieee.{Float, nan, inf, fin, binary64, fits, is_nan, of_bits, to_bits, nan_bits}
 use lib.Ieee.Scale.{finite}
 use Rattle.ieee754.specs.Code.Units.{digits, places}
-use Rattle.ieee754.proofs.Fields.{no_nan, no_nan_plain, by_plus, by_minus}
+use Rattle.ieee754.proofs.Fields.{no_nan, by_plus, by_minus}
 use Rattle.ieee754.proofs.UnitPatterns.{digits_short, places_few}
 use Rattle.ieee754.proofs.WholeRemainder.{divisor_low, divisor_digits, places_in, rest_short, whole_remainder}
 use Rattle.ieee754.proofs.remainder.finite_remainder.Goals.{Start, After-rest_of-r}
@@ -56,9 +56,6 @@ pattern_of-p-requires c =
       subst (λ (n : ℕ). n < 2046) (sym c.places-i.ensures)
           (places_few (to_bits binary64 c.args.y % 2 ^ 63) (divisor_low c.args.x c.args.y (x_fits s) (y_fits s) c.requires.0 c.requires.1 c.requires.2 c.requires.3)),
     )
-
-pub float_from_bits-result : goal.float_from_bits-result
-float_from_bits-result c = no_nan_plain binary64 c.pattern_of-p.result (le_of_lt c.pattern_of-p.ensures.below)
 
 -- the pattern's value, of the rest that is meant
 joined : (v r i n k : ℕ) → v ≡ r * 2 ^ i → r ≡ n → i ≡ k → v ≡ n * 2 ^ k

@@ -1,9 +1,8 @@
 -- `ieee754_roots::short_root::sqrt_to_f32` meets its contract. Assumes nothing.
-use Rattle.std.proofs.Common.{ℕ, ◌+◌, ◌-◌, ◌*◌, ◌/◌, ◌^◌, ◌<◌, ◌≤◌, T, sym, ap, ◌∙◌, subst, arith}
+use Rattle.std.proofs.Common.{ℕ, ◌+◌, ◌-◌, ◌*◌, ◌/◌, ◌^◌, ◌<◌, ◌≤◌, T, sym, subst}
 use lib.Ieee.{binary32, binary64, fits, to_bits}
-use Rattle.ieee754.specs.Conversion.{convert}
-use Rattle.ieee754.proofs.Fields.{no_nan_plain, le_no_nan}
-use Rattle.ieee754_roots.proofs.ShortRootCases.{inside, doubled_lt, pattern_le, short_root}
+use Rattle.ieee754.proofs.Fields.{no_nan_plain}
+use Rattle.ieee754_roots.proofs.ShortRootCases.{inside, pattern_le, short_root}
 use Rattle.ieee754_roots.proofs.short_root.sqrt_to_f32.Goals.{Start, Then-b, Then-rounds_to}
 use Rattle.ieee754_roots.proofs.short_root.sqrt_to_f32.Goals as goal
 
@@ -19,39 +18,9 @@ range c = inside (b c) 0x3030_0000_0000_0000 0x4fd0_0000_0000_0000 c.if-b.true
 pattern : (c : Then-rounds_to) → (((b c.before.before.before / 2 ^ 52 + 1021) / 2 - 896) * 2 ^ 23 + c.guessed_digits-d.result) ≤ 0x7f80_0000
 pattern c = let t = c.before.before in pattern_le (b t.before) t.guessed_digits-d.result (range t.before).1 t.guessed_digits-d.ensures.1
 
-pub float_to_bits-b : goal.float_to_bits-b
-float_to_bits-b c = le_no_nan _ _ c.if-x.true
-
-pub overflow_add-p : goal.overflow_add-p
-overflow_add-p c = omega (arith, range (goal.at.overflow_add-p c).Then-b)
-
-pub guessed_digits-d-requires : goal.guessed_digits-d-requires
-guessed_digits-d-requires c = omega (arith, range (goal.at.guessed_digits-d-requires c).Then-b)
-
-pub overflow_mul-m : goal.overflow_mul-m
-overflow_mul-m c = omega (arith, doubled_lt (b (goal.at.overflow_mul-m c).Then-b) (range (goal.at.overflow_mul-m c).Then-b).1)
-
-pub rounds_to-requires : goal.rounds_to-requires
-rounds_to-requires c = (doubled_lt (b (goal.at.rounds_to-requires c).Then-b) (range (goal.at.rounds_to-requires c).Then-b).1, c.guessed_digits-d.ensures.0, c.guessed_digits-d.ensures.1)
-
-pub overflow_sub-result : goal.overflow_sub-result
-overflow_sub-result c = omega (arith, range (goal.at.overflow_sub-result c).Then-b)
-
-pub overflow_mul-result : goal.overflow_mul-result
-overflow_mul-result c = omega (arith, pattern (goal.at.overflow_mul-result c).Then-rounds_to)
-
-pub overflow_add-result : goal.overflow_add-result
-overflow_add-result c = omega (arith, pattern (goal.at.overflow_add-result c).Then-rounds_to)
-
-pub overflow_cast-result : goal.overflow_cast-result
-overflow_cast-result c = omega (arith, pattern (goal.at.overflow_cast-result c).Then-rounds_to)
-
 pub float_from_bits-result : goal.float_from_bits-result
 float_from_bits-result c = no_nan_plain binary32 _ (pattern (goal.at.float_from_bits-result c).Then-rounds_to)
 
 pub returns-then-rounds_to : goal.returns-then-rounds_to
 returns-then-rounds_to c =
     short_root c.args.x (held (goal.at.returns-then-rounds_to c).Start) c.guessed_digits-d.result (range (goal.at.returns-then-rounds_to c).Then-b).0 (range (goal.at.returns-then-rounds_to c).Then-b).1 (c.rounds_to.ensures c.if-rounds_to.true)
-
-pub returns : goal.returns
-returns c = c.f64_to_f32.ensures ∙ ap (convert binary32) c.sqrt.ensures

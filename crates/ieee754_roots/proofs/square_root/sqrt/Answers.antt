@@ -1,40 +1,27 @@
 -- `ieee754_roots::square_root::sqrt` meets its contract, by the ranges of the pattern. Assumes nothing.
-use Rattle.std.proofs.Common.{◌≡◌, ℕ, ◌<◌, ◌≤◌, T, sym, ◌∙◌, subst, le_of_lt, arith}
+use Rattle.std.proofs.Common.{◌≡◌, ℕ, ◌<◌, T, sym, ◌∙◌, subst, arith}
 use lib.Ieee.{Float, binary64, fits, to_bits}
-use lib.Ieee.Compare.{differs_from_itself}
 use lib.Arith.{lt_of_le-ne}
 use Rattle.ieee754.specs.SquareRoot.{sqrt}
-use Rattle.ieee754.proofs.Fields.{zero_by_zero, no_nan_plain, equals_itself}
+use Rattle.ieee754.proofs.Fields.{nan_64, nan_found}
 use Rattle.ieee754.proofs.SquareRootCases.{sqrt_nan, when_plus_zero, when_minus_zero, when_negative, when_top, when_normal, when-subnormal}
 use Rattle.ieee754.proofs.LeadingZeros.{zeros, shifted}
-use Rattle.ieee754_roots.proofs.square_root.sqrt.Goals.{Else-b-eq0, Start, Then-b-lt4503599627370496}
+use Rattle.ieee754_roots.proofs.square_root.sqrt.Goals.{Else-b-eq0, Start}
 use Rattle.ieee754_roots.proofs.square_root.sqrt.Goals as goal
 
 held : (c : Start) → T (fits binary64 c.args.x)
 held c = subst T (sym c.well_formed.0.1) tt
 
--- past all tests but the last
-abbrev b : Start → ℕ
-b c = to_bits binary64 c.args.x
-
-some : (c : Else-b-eq0) → 0 < b c.before.before
-some c = pos (b c.before.before) c.if-b-eq0.false
+some : (c : Else-b-eq0) → 0 < to_bits binary64 c.args.x
+some c = pos (to_bits binary64 c.args.x) c.if-b-eq0.false
   where
     pos : (n : ℕ) → (n ≡ 0 → ⊥) → 0 < n
     pos n h = lt_of_le-ne (omega arith) (λ (e : 0 ≡ n). h (sym e))
 
-low : (c : Then-b-lt4503599627370496) → (12 ≤ lib.Count.count_leading_zeros 64 (b c.before.before.before.before.before.before)) × (lib.Count.count_leading_zeros 64 (b c.before.before.before.before.before.before) ≤ 63)
-low c =
-    let s = c.before.before.before.before.before.before in
-    zeros (b s) (some c.before.before.before.before) c.if-b-lt4503599627370496.true
-
-pub returns-then-x : goal.returns-then-x
-returns-then-x c =
-    let e = differs_from_itself c.args.x (subst T (sym c.if-x.true) tt) in
+pub returns-then-is_nan : goal.returns-then-is_nan
+returns-then-is_nan c =
+    let e = nan_found c.args.x c.is_nan.ensures.value c.if-is_nan.true in
     subst (λ (z : Float). z ≡ sqrt binary64 z) (sym e) (sym sqrt_nan)
-
-pub float_to_bits-b : goal.float_to_bits-b
-float_to_bits-b c = equals_itself c.args.x c.if-x.false
 
 pub returns-then-b-eq0 : goal.returns-then-b-eq0
 returns-then-b-eq0 c = when_plus_zero c.args.x (held (goal.at.returns-then-b-eq0 c).Start) c.if-b-eq0.true
@@ -43,37 +30,22 @@ pub returns-then-b : goal.returns-then-b
 returns-then-b c = when_minus_zero c.args.x (held (goal.at.returns-then-b c).Start) c.if-b.true
 
 pub returns-then-b-gt9223372036854775808 : goal.returns-then-b-gt9223372036854775808
-returns-then-b-gt9223372036854775808 c = zero_by_zero binary64 ∙ sym (when_negative c.args.x (held (goal.at.returns-then-b-gt9223372036854775808 c).Start) c.if-b-gt9223372036854775808.true)
+returns-then-b-gt9223372036854775808 c = nan_64 ∙ sym (when_negative c.args.x (held (goal.at.returns-then-b-gt9223372036854775808 c).Start) c.if-b-gt9223372036854775808.true)
 
 pub returns-then-b-ge9218868437227405312 : goal.returns-then-b-ge9218868437227405312
 returns-then-b-ge9218868437227405312 c = when_top c.args.x (held (goal.at.returns-then-b-ge9218868437227405312 c).Start) c.if-b-ge9218868437227405312.true (lt_of_le-ne c.if-b-gt9223372036854775808.false c.if-b.false)
 
 pub overflow_sub-z : goal.overflow_sub-z
-overflow_sub-z c = let h = low (goal.at.overflow_sub-z c).Then-b-lt4503599627370496 in omega arith
-
-pub overflow_cast-z : goal.overflow_cast-z
-overflow_cast-z c = let h = low (goal.at.overflow_cast-z c).Then-b-lt4503599627370496 in omega arith
-
-pub overflow_shl-b : goal.overflow_shl-b
-overflow_shl-b c = let h = low (goal.at.overflow_shl-b c).Then-b-lt4503599627370496 in omega arith
-
-pub overflow_sub-z-then-b-lt4503599627370496 : goal.overflow_sub-z-then-b-lt4503599627370496
-overflow_sub-z-then-b-lt4503599627370496 c = let h = low (goal.at.overflow_sub-z-then-b-lt4503599627370496 c).Then-b-lt4503599627370496 in omega arith
+overflow_sub-z c = let h = zeros (to_bits binary64 c.args.x) (some (goal.at.overflow_sub-z c).Else-b-eq0) c.if-b-lt4503599627370496.true in omega arith
 
 pub root_bits-requires : goal.root_bits-requires
 root_bits-requires c =
-    let g = shifted (b (goal.at.root_bits-requires c).Start) (some (goal.at.root_bits-requires c).Else-b-eq0) c.if-b-lt4503599627370496.true in
+    let g = shifted (to_bits binary64 c.args.x) (some (goal.at.root_bits-requires c).Else-b-eq0) c.if-b-lt4503599627370496.true in
     (g.0, g.1, omega arith)
-
-pub float_from_bits-result : goal.float_from_bits-result
-float_from_bits-result c = no_nan_plain binary64 c.root_bits.result (le_of_lt c.root_bits.ensures.1)
 
 pub returns-then-b-lt4503599627370496 : goal.returns-then-b-lt4503599627370496
 returns-then-b-lt4503599627370496 c =
     c.root_bits.ensures.0 ∙ sym (when-subnormal c.args.x (held (goal.at.returns-then-b-lt4503599627370496 c).Start) (some (goal.at.returns-then-b-lt4503599627370496 c).Else-b-eq0) c.if-b-lt4503599627370496.true)
-
-pub float_from_bits-result-2 : goal.float_from_bits-result-2
-float_from_bits-result-2 c = no_nan_plain binary64 c.root_bits-2.result (le_of_lt c.root_bits-2.ensures.1)
 
 pub returns : goal.returns
 returns c =

@@ -1,55 +1,16 @@
--- `pass_reader::block::flag_and_samples` meets its contract. By the place of the first space: the flag stands before it, and the samples after it.
-use Rattle.std.proofs.Common.{None}
-use mathlib.Core.Path.{◌≡◌, sym, ◌∙◌}
-use native.Mathlib.Omega.{arith}
-use borrow.Author.Rules.{rules}
-use Rattle.pass_reader.proofs.ByteLaws.{front_length, place_within}
-use Rattle.pass_reader.proofs.BlockLaws.{one_field_said, no_flag_said, two_fields_said}
+-- `pass_reader::block::flag_and_samples` meets its contract. With samples that are none, and with both fields.
+use Rattle.std.proofs.Common.{◌≡◌, None, rules, sym, ◌∙◌}
+use Rattle.pass_reader.proofs.ByteLaws.{tail_is}
+use Rattle.pass_reader.proofs.BlockLaws.{no_samples_said, both_said}
 use Rattle.pass_reader.proofs.block.flag_and_samples.Goals as goal
 
-pub returns-then-end-s : goal.returns-then-end-s
-returns-then-end-s c = one_field_said c.args.s.now c.place_of-end.result _ c.place_of-end.ensures c.if-end-s.true
-
-pub slice_bounds-decimal-end : goal.slice_bounds-decimal-end
-slice_bounds-decimal-end c =
-    let w = place_within 32 c.args.s.now in
-    let e = c.place_of-end.ensures in
-    front_length _ _ (omega arith)
-
-pub returns-in_err-flag : goal.returns-in_err-flag
-returns-in_err-flag c =
-    let s = c.args.s.now in
-    let w = place_within 32 s in
-    let e = c.place_of-end.ensures in
-    let n = c.if-end-s.false in
-    let none : c.from_residual.result ≡ None = search rules in
-    rw none (no_flag_said s c.place_of-end.result _ e (omega arith) (sym c.in_err-flag.was ∙ c.decimal.ensures))
-
-pub overflow_add-end : goal.overflow_add-end
-overflow_add-end c =
-    let w = place_within 32 c.args.s.now in
-    let e = c.place_of-end.ensures in
-    let n = c.if-end-s.false in
-    record { fits = omega arith }
-
-pub slice_bounds-samples-count : goal.slice_bounds-samples-count
-slice_bounds-samples-count c =
-    let w = place_within 32 c.args.s.now in
-    let e = c.place_of-end.ensures in
-    let n = c.if-end-s.false in
-    omega arith
-
-pub slice_bounds-samples-start : goal.slice_bounds-samples-start
-slice_bounds-samples-start c =
-    let w = place_within 32 c.args.s.now in
-    let e = c.place_of-end.ensures in
-    let n = c.if-end-s.false in
-    omega arith
+pub returns-in_err-count : goal.returns-in_err-count
+returns-in_err-count c =
+    let n : c.from_residual-in_err-count.result ≡ None = search rules in
+    let p = c.in_ok-end.ensures in
+    rw n (no_samples_said c.args.s.now _ _ p.0 p.1 (rw tail_is at c.samples.ensures) c.in_err-count.was)
 
 pub returns : goal.returns
 returns c =
-    let s = c.args.s.now in
-    let w = place_within 32 s in
-    let e = c.place_of-end.ensures in
-    let n = c.if-end-s.false in
-    c.samples.ensures ∙ two_fields_said s c.place_of-end.result _ e c.in_ok-flag.flag (omega arith) (sym c.in_ok-flag.was ∙ c.decimal.ensures)
+    let p = c.in_ok-end.ensures in
+    both_said c.args.s.now _ _ p.0 p.1 (sym c.in_ok-flag.was ∙ c.decimal.ensures) (rw tail_is at c.samples.ensures) c.in_ok-count.was

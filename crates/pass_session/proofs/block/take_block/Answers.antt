@@ -1,13 +1,8 @@
--- `take_block`, by what the line says: outside the form, or a flag and samples for the channel.
+-- `take_block`, where the line is in the form: a flag and samples for the channel.
 use mathlib.Core.Path.{sym}
 use lib.Seq.{length-take-le}
-use Rattle.pass_session.proofs.BlockCases.{said_within, block_refused, block-answered}
+use Rattle.pass_session.proofs.BlockCases.{said_within, block-answered}
 use Rattle.pass_session.proofs.block.take_block.Goals as goal
-
-pub returns-in_default : goal.returns-in_default
-returns-in_default c =
-    block_refused c.args.line.now _ _ c.block_line.ensures c.args.p c.args.windows.now c.args.at c.args.out.now
-    c.in_default.is c.refuse.ensures
 
 pub slice_bounds-samples-end : goal.slice_bounds-samples-end
 slice_bounds-samples-end c = said_within c.args.line.now _ _ c.block_line.ensures _ _ c.in-Some.is
@@ -17,5 +12,5 @@ slice_bounds-block-end c = sym (length-take-le _ _ (said_within c.args.line.now 
 
 pub returns : goal.returns
 returns c =
-    block-answered c.args.line.now _ _ c.block_line.ensures c.args.p c.args.windows.now c.args.at c.args.out.now _ _
+    block-answered c.args.line.now _ _ c.block_line.ensures c.args.p c.args.windows.now c.args.out.now _ _
     c.block-b.result _ _ _ c.in-Some.is c.block-b.ensures c.take_answer.ensures

@@ -1,9 +1,8 @@
 -- `pass_writer::digits::put_float` meets its contract. The digits, and the byte after them.
-use mathlib.Core.Path.{◌≡◌, ◌∙◌, ap}
-use Prim.Native.Nat.{ℕ, ◌+◌}
+use mathlib.Core.Path.{◌∙◌}
 use native.Mathlib.Omega.{arith}
-use Rattle.pass_writer.specs.Digits.{digits, float_text}
-use Rattle.pass_writer.specs.Code.Buffers.{laid}
+use lib.Seq.{length-take-le}
+use Rattle.pass_writer.specs.Digits.{float_text}
 use Rattle.pass_writer.proofs.DigitLaws.{length_float}
 use Rattle.pass_writer.proofs.LaidLaws.{put_after}
 use Rattle.pass_writer.proofs.digits.put_float.Goals as goal
@@ -11,8 +10,6 @@ use Rattle.pass_writer.proofs.digits.put_float.Goals as goal
 pub returns-clause-wrote : goal.returns-clause-wrote
 unfolding float_text
 returns-clause-wrote c =
-    let at = c.args.at in
-    let old = c.args.out.now in
-    let e : c.put_digits.new.out ≡ laid at (float_text c.args.x) old = c.put_digits.ensures ∙ ap (λ (n : ℕ). laid at (digits 16 16 n) old) c.f64_to_bits.ensures in
-    let next : at + 16 + 1 ≡ at + 17 = omega arith in
-    rw next at (put_after at c.args.end 16 _ old _ (length_float c.args.x) e (omega arith) c.put_digits.auto.out)
+    let x = c.args.x in
+    let l = length-take-le 16 c.args.out.now (omega arith) in
+    put_after (float_text x) c.args.out.now 16 c.args.end (length_float x) (omega arith) (c.put_digits.ensures ∙ rw (l, c.f64_to_bits.ensures))

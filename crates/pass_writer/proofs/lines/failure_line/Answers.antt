@@ -1,18 +1,19 @@
--- `pass_writer::lines::failure_line` meets its contract. By the room that is left.
-use mathlib.Core.Path.{sym, ◌∙◌}
-use borrow.Author.Tests.{leb-true}
-use Rattle.pass_writer.proofs.LaidLaws.{line_written, no_room}
+-- `pass_writer::lines::failure_line` meets its contract. By the room that there is: two fields, one behind the other.
+use mathlib.Core.List.{◌++◌, ◌∷◌, []}
+use native.Mathlib.Omega.{arith}
+use Rattle.pass_reader.specs.Bytes.{bytes}
+use Rattle.pass_writer.specs.Digits.{decimal_text}
+use Rattle.pass_writer.specs.Lines.{failure_text}
+use Rattle.pass_writer.proofs.LaidLaws.{line_written, room_size, then_wrote, wrote_as, joined_two}
 use Rattle.pass_writer.proofs.lines.failure_line.Goals as goal
 
-pub returns-then-not-has_room : goal.returns-then-not-has_room
-returns-then-not-has_room c = no_room c.args.at _ c.args.out.now (sym c.has_room.ensures ∙ c.if-not-has_room.true)
-
-pub put_failure-requires : goal.put_failure-requires
-put_failure-requires c = let h = leb-true _ _ (sym c.has_room.ensures ∙ c.if-not-has_room.false) in h
-
 pub returns : goal.returns
+unfolding failure_text
 returns c =
-    line_written c.args.at _ _
-    c.args.out.now _
-    (leb-true _ _ (sym c.has_room.ensures ∙ c.if-not-has_room.false))
-    c.put_failure.ensures
+    let room = c.in-Some.ensures.cases in
+    let size = room_size room in
+    let n = c.put_number.ensures in
+    let k = c.put_bytes-n.ensures.count_is in
+    let l = n.upper_bound in
+    line_written room (omega arith)
+    (wrote_as _ (joined_two (bytes "failed") (decimal_text c.args.error)) (then_wrote (decimal_text c.args.error ++ (10 ∷ [])) size (omega arith) c.put_bytes-n.ensures n.wrote))

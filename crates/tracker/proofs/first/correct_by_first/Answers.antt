@@ -15,5 +15,5 @@ returns c =
     let t = c.enter-ekf.result in
     band_is a.h.ekf a.h.p a.w.now First a.re a.im _ m t _ c.apply.result c.prior_of.ensures c.measure-m.ensures c.enter-ekf.ensures
     (c.apply.ensures
-    ∙ ap (λ (r : Float). moved t a.h.p 0 m.z m.r_effective (Kept m.norm_re r)) c.ratio_of-pr.ensures
+    ∙ ap (λ (r : Float). moved t a.h.p 0 m.z m.r_effective (Kept m.norm_re r)) c.ratio-pr.ensures
     ∙ gained_moved t a.h.p 0 m)

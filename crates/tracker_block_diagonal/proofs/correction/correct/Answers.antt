@@ -1,9 +1,11 @@
 -- `correct` takes the gain and corrects each half, as the 36 numbers are corrected, where its test is passed.
-use mathlib.Core.Path.{◌≡◌, sym, ap, ◌∙◌, subst}
-use mathlib.Core.Bool.{true}
+use mathlib.Core.Path.{◌≡◌, refl, sym, ap, ◌∙◌, subst}
+use mathlib.Core.Bool.{Bool, true, false}
 use lib.Dec.{T}
 use lib.Ieee.{Float, binary64, fits, le}
 use lib.Ieee.Scale.{finite}
+use Rattle.std.specs.Bool.{then_some}
+use Rattle.std.specs.Prelude.{Option, IfSome}
 use Rattle.ieee754.specs.Binary64.{plus, times, zero, ten_to_minus12}
 use Rattle.tracker_covariance.specs.Correction.{innovation_variance, corrected}
 use Rattle.tracker_block_diagonal.specs.declared.half.Gain.{Gain}
@@ -33,9 +35,14 @@ fitting c =
       cc = t _ g.1.1.1.1.1.1.1.1.0.1;
     }
 
-pub returns-then-apart : goal.returns-then-apart
+-- what is given only where b is true
+given : {A : Type 0} (P : A → Type 0) (b : Bool) (v : A) (o : Option A) → o ≡ then_some b v → (b ≡ true → P v) → IfSome o P
+given P true v o e f = subst (λ o. IfSome o P) (sym e) (f refl)
+given P false v o e f = subst (λ o. IfSome o P) (sym e) tt
+
+pub returns : goal.returns
 unfolding innovation_variance joined
-returns-then-apart c =
+returns c = given _ _ _ _ c.then_some.ensures (λ apart.
     let a = c.args.h.first in
     let d = c.args.h.second in
     let noise = c.args.noise in
@@ -52,7 +59,7 @@ returns-then-apart c =
     let et : c.joseph_left-t.result ≡ t = c.joseph_left-t.ensures ∙ (λ j. half_left (ef j) (ek j)) in
     let ea : c.joseph_right.result ≡ half_right t k noise = c.joseph_right.ensures ∙ (λ j. half_right (et j) (ek j) noise) in
     let eb : c.shift.result ≡ shifted g (times zero noise) = c.shift.ensures ∙ (λ j. shifted (eg j) (times zero noise)) in
-    let tests = both_true (le least s) c.is_finite-finite.result c.if-apart.true in
+    let tests = both_true (le least s) c.is_finite-finite.result apart in
     let up = gain_taken s tests.0 in
     let all =
     all_finite a.pp f k noise
@@ -63,6 +70,6 @@ returns-then-apart c =
       ap (le least) (absolute_above s up) ∙ tests.0,
       ap gains ek ∙ gain_apart a d s up,
       (λ j. blocks (ea j) o o (eb j))
-          ∙ sym (corrected_blocks a d k noise all.gain all.row all.column (floored_fits d (fitting (goal.at.returns-then-apart c).Start)) all.measured)
+          ∙ sym (corrected_blocks a d k noise all.gain all.row all.column (floored_fits d (fitting (goal.at.returns c).Start)) all.measured)
           ∙ ap (λ (k : Gain). corrected (blocks a o o d) 0 (gains k) noise) (sym ek),
-    )
+    ))

@@ -1,5 +1,5 @@
 -- `follow_apart`: what is left of the samples makes of the tracker what all of them make of the first. Assumes nothing.
-use mathlib.Core.Path.{refl, ap, ◌∙◌}
+use mathlib.Core.Path.{ap, ◌∙◌}
 use mathlib.Core.List.{List}
 use lib.Ieee.{Float}
 use Rattle.std.proofs.lemmas.Option.{MatchOption-at_none}
@@ -8,9 +8,6 @@ use Rattle.tracker_model.specs.Code.OneList.{followed}
 use Rattle.tracker_over_block.proofs.FollowingLaws.{followed_next}
 use Rattle.tracker_over_block.proofs.apart.follow_apart.Goals.{in_default, in-len2-up+in_default-step_apart}
 use Rattle.tracker_over_block.proofs.apart.follow_apart.Goals as goal
-
-pub loop-left-init : goal.loop-left-init
-loop-left-init c = (λ fade. refl, c.requires)
 
 pub loop-left-preserved : goal.loop-left-preserved
 loop-left-preserved c =

@@ -6,9 +6,6 @@ use Rattle.tracker_model.specs.Following.{corrected, follow}
 use Rattle.tracker_over_block.proofs.FollowingLaws.{by_lock, each_some}
 use Rattle.tracker_over_block.proofs.apart.step_apart.Goals as goal
 
-pub predict-requires : goal.predict-requires
-predict-requires c = c.is_steady.ensures c.if-is_steady.true
-
 pub returns-then-is_steady : goal.returns-then-is_steady
 unfolding follow
 returns-then-is_steady c = λ fade.

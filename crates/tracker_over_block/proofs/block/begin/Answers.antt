@@ -9,7 +9,7 @@ returns c =
     let a = c.args in
     let u = c.follow_apart in
     let q = c.in-Some.ensures in
-    λ fade second.
-    of_one a.two a.dt fade a.first.now u.result.1.now second (a.h, a.w.now) _ c.if-two.false
+    λ fade.
+    of_one a.lists.two a.dt fade a.lists.first.now u.result.1.now a.lists.second.now (a.h, a.w.now) _ c.if-lists.false
     ((λ j. followed a.dt fade u.result.1.now (record { ekf = u.result.0.ekf; p = c.join-p.ensures j }, u.new.w))
-    ∙ u.ensures fade ∙ (λ j. followed a.dt fade a.first.now (record { ekf = a.h.ekf; p = q j }, a.w.now)))
+    ∙ u.ensures fade ∙ (λ j. followed a.dt fade a.lists.first.now (record { ekf = a.h.ekf; p = q j }, a.w.now)))

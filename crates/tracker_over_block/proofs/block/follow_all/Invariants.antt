@@ -6,7 +6,7 @@ use Rattle.tracker_over_block.proofs.block.follow_all.Given as goal
 
 abbrev pub invariant-loop-a : goal.invariant-loop-a
 invariant-loop-a l =
-    (over_lists l.two l.dt l.fade l.a l.b (l.t, l.w) ≡ over_lists l.two l.dt l.fade l.first l.second (l.initial.t, l.initial.w))
+    (over_lists l.lists.two l.dt l.fade l.a l.b (l.t, l.w) ≡ over_lists l.lists.two l.dt l.fade l.lists.first.now l.lists.second.now (l.initial.t, l.initial.w))
     × (length l.w ≡ 2048)
 
 abbrev pub decreases-loop-a : goal.decreases-loop-a

@@ -9,4 +9,4 @@ pub returns : goal.returns
 returns c =
     let s = c.args in
     let a = 2048 * s.k in
-    within_is a (a + 2048) 2048 (over_lists s.two s.dt s.fade s.first.now s.second.now) s.h s.w.now refl c.follow_lists.ensures
+    within_is a (a + 2048) 2048 (over_lists s.lists.two s.dt s.fade s.lists.first.now s.lists.second.now) s.h s.w.now refl c.follow_lists.ensures

@@ -1,3 +1,0 @@
--- A channel as it stands, from what its parts ensure.
-pub mod StandingLaws
-pub mod StandingCases

@@ -1,8 +1,0 @@
--- `phase_of`, by its one division.
-use mathlib.Core.Path.{refl}
-use Rattle.tracker_readings.specs.Readings.{phase_at}
-use Rattle.tracker_readings.proofs.phase_of.Goals as goal
-
-pub returns : goal.returns
-unfolding phase_at
-returns c = refl
