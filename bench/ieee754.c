@@ -1,9 +1,8 @@
-/* The float helpers beside the C compiler's own, over random normal arguments. Both sides are called, not inlined. Those of the C interface are its own,
-   the others those of bench_exports. */
+/* The float helpers beside the C compiler's own, over random normal arguments. Both sides are called, not inlined. */
 #include "clock.h"
 #include <math.h>
 
-double gibsumac_sqrt(double);
+double measured_sqrt(double);
 float measured_f64_to_f32(double);
 double measured_rem_euclid(double, double);
 double measured_round(double);
@@ -11,9 +10,9 @@ uint64_t measured_to_usize(double);
 double measured_max(double, double);
 double measured_clamp(double, double, double);
 double measured_abs(double);
-double gibsumac_hypot(double, double);
-float gibsumac_hypotf(float, float);
-uint64_t gibsumac_survey(const float *, size_t);
+double measured_hypot(double, double);
+float measured_hypotf(float, float);
+uint64_t measured_survey(const float *, size_t);
 
 #define PLAIN __attribute__((noinline)) static
 PLAIN double c_sqrt(double x) { return sqrt(x); }
@@ -42,20 +41,20 @@ static double any[COUNT], positive[COUNT], phase[COUNT], amplitude[COUNT];
 static float samples[2 * COUNT];
 static volatile double sink;
 
-#define SIDES(library, name, sum, item)                                                     \
-    static void port_##name(void) { sum s = 0; for (int i = 0; i < COUNT; i++) s += library##_##name item; sink = (double)s; } \
+#define SIDES(name, sum, item)                                                              \
+    static void port_##name(void) { sum s = 0; for (int i = 0; i < COUNT; i++) s += measured_##name item; sink = (double)s; } \
     static void other_##name(void) { sum s = 0; for (int i = 0; i < COUNT; i++) s += c_##name item; sink = (double)s; }
-SIDES(gibsumac, sqrt, double, (positive[i]))
-SIDES(measured, f64_to_f32, float, (any[i]))
-SIDES(measured, rem_euclid, double, (phase[i], 6.283185307179586))
-SIDES(measured, round, double, (amplitude[i] * 1000))
-SIDES(measured, to_usize, uint64_t, (amplitude[i] * 1e6))
-SIDES(measured, max, double, (any[i], positive[i]))
-SIDES(measured, clamp, double, (any[i], -1.0, 1.0))
-SIDES(measured, abs, double, (any[i]))
-SIDES(gibsumac, hypot, double, (amplitude[i], phase[i]))
-SIDES(gibsumac, hypotf, float, (samples[2 * i], samples[2 * i + 1]))
-static void port_survey(void) { sink = (double)gibsumac_survey(samples, 2 * COUNT); }
+SIDES(sqrt, double, (positive[i]))
+SIDES(f64_to_f32, float, (any[i]))
+SIDES(rem_euclid, double, (phase[i], 6.283185307179586))
+SIDES(round, double, (amplitude[i] * 1000))
+SIDES(to_usize, uint64_t, (amplitude[i] * 1e6))
+SIDES(max, double, (any[i], positive[i]))
+SIDES(clamp, double, (any[i], -1.0, 1.0))
+SIDES(abs, double, (any[i]))
+SIDES(hypot, double, (amplitude[i], phase[i]))
+SIDES(hypotf, float, (samples[2 * i], samples[2 * i + 1]))
+static void port_survey(void) { sink = (double)measured_survey(samples, 2 * COUNT); }
 static void other_survey(void) { sink = (double)c_survey(samples, 2 * COUNT); }
 
 int main(void) {

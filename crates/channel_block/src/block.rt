@@ -59,7 +59,7 @@ pub fn block(
         Ok(flag) => flag,
         Err(refusal) => {
             return Blocked {
-                answer: refused_answer(refusal),
+                answer: refused_answer(refusal.number()),
                 channel: c,
             };
         }

@@ -56,9 +56,11 @@ fn with_carriers(c: Channel, a: Carriers) -> Channel
 pub fn assign(c: Channel, a: Carriers) -> Result<Channel, Refused>
     ensures { returned result ≡ assigned c a }
 {
-    check(a, c.status).map_err(|refusal| Refused {
-        refusal,
-        channel: c,
-    })?;
-    Ok(with_carriers(c, a))
+    match check(a, c.status) {
+        Ok(()) => Ok(with_carriers(c, a)),
+        Err(refusal) => Err(Refused {
+            refusal,
+            channel: c,
+        }),
+    }
 }

@@ -135,9 +135,11 @@ fn refused_settings() -> Settings
 pub fn open(s: Settings) -> Result<Channel, Refused>
     ensures { returned result ≡ opened s }
 {
-    check(s).map_err(|refusal| Refused {
-        refusal,
-        channel: new_channel(refused_settings()),
-    })?;
-    Ok(new_channel(s))
+    match check(s) {
+        Ok(()) => Ok(new_channel(s)),
+        Err(refusal) => Err(Refused {
+            refusal,
+            channel: new_channel(refused_settings()),
+        }),
+    }
 }

@@ -1,23 +1,21 @@
 // Blocks that leave the lists and the window memory as they were: refused ones, those of an idle channel, and the flags other than 1.
 ghost use Rattle.std.specs.Prelude.{◌≡◌};
 ghost use Rattle.channel_model.specs.Answers.{refused_answer};
-ghost use Rattle.channel_model.specs.Returns.{refusal_number};
 ghost use Rattle.channel_model.specs.Blocks.{not_locked, bank_without_signal, without_signal};
 
 use bank_model::state::EkfTrackingBank;
 use channel_answer::values::{remember, unlock};
-use channel_model::refusal::Refusal;
 use channel_model::{Answer, Channel, Reading};
 use estimate_snr::estimate_snr;
 use tracker::state::Tracked;
 
 // A refused block answers its number and nothing of the channel.
 #[tactic(auto, unfolding(channel_model::specs::Answers::refused_answer))]
-pub fn refused_answer(cause: Refusal) -> Answer
-    ensures { result ≡ refused_answer (refusal_number cause) }
+pub fn refused_answer(number: u64) -> Answer
+    ensures { result ≡ refused_answer number }
 {
     Answer {
-        refusal: cause.number(),
+        refusal: number,
         ..Answer::default()
     }
 }

@@ -3,10 +3,10 @@
 #![tactic(auto)]
 
 pub mod block;
-mod call;
-mod change;
+pub mod call;
+pub mod change;
 pub mod letters;
 pub mod look;
-mod place;
+pub mod place;
 pub mod session;
 pub mod set;

@@ -136,12 +136,13 @@ impl Session {
         ensures { result ≡ meant.first_session }
     {
         let plan = first_plan();
-        let (number, channel) = number_and_channel(open(plan.settings));
+        let opened = open(plan.settings);
+        let (number, channel) = number_and_channel(&opened);
         Session {
             known: true,
             plan,
             seen: Seen::nothing(number),
-            channel,
+            channel: *channel,
         }
     }
 
@@ -149,9 +150,9 @@ impl Session {
     fn returned(&mut self, r: Result<Channel, Refused>)
         ensures { self.new ≡ meant.after_return self.old (returned r) }
     {
-        let (number, channel) = number_and_channel(r);
+        let (number, channel) = number_and_channel(&r);
         self.seen.number = number;
-        self.channel = channel;
+        self.channel = *channel;
     }
 
     #[tactic(auto, unfolding(crate::specs::Code::Playing::after_block))]

@@ -16,28 +16,27 @@ use vectors::line::{is_end, is_rest, rest};
 pub fn replay_open(words: &[u64], c: &mut Channel) -> bool
     ensures { (result, c.new) ≡ open_line words.now }
 {
-    let (number, channel) = number_and_channel(open(settings_in(rest(words, 1))));
-    *c = channel;
+    let opened = open(settings_in(rest(words, 1)));
+    let (number, channel) = number_and_channel(&opened);
+    *c = *channel;
     is_rest(rest(words, 10), &[number])
 }
 
-#[tactic(auto, unfolding(crate::specs::Code::Calls::build_line, vectors::specs::Code::Lines::ends_at))]
 pub fn replay_build(words: &[u64], c: &mut Channel) -> bool
-    ensures { (result, c.new) ≡ build_line words.now c.old }
+    ensures { (result, c.new) ≡ build_line words.now }
 {
-    let Some((channel, left)) = channel_in(rest(words, 1)) else {
-        return false;
-    };
+    let (channel, left) = channel_in(rest(words, 1));
     *c = channel;
-    left.is_empty()
+    is_end(left)
 }
 
 #[tactic(auto, unfolding(crate::specs::Code::Calls::assign_line))]
 pub fn replay_assign(words: &[u64], c: &mut Channel) -> bool
     ensures { (result, c.new) ≡ assign_line words.now c.old }
 {
-    let (number, channel) = number_and_channel(assign(*c, carriers_in(rest(words, 1))));
-    *c = channel;
+    let assigned = assign(*c, carriers_in(rest(words, 1)));
+    let (number, channel) = number_and_channel(&assigned);
+    *c = *channel;
     is_rest(rest(words, 5), &[number])
 }
 

@@ -55,10 +55,10 @@ impl State {
 
 fn main() {
     // Any channel: the first line opens or builds another.
-    let channel = number_and_channel(open(settings_in(&[]))).1;
+    let opened = open(settings_in(&[]));
     let mut state = State {
-        channel,
+        channel: *number_and_channel(&opened).1,
         windows: [0.0; 8193],
     };
-    vectors::replay(&mut [0; 33300], |words| state.replay(words));
+    vectors::replay(100_000_000, &mut [0; 33300], |words| state.replay(words));
 }

@@ -53,18 +53,22 @@ fn tuning_in(ten: &[u64], rate: f64) -> Tuning
     }
 }
 
-// A tracker that a line begins with, and what is left of the line behind it; none where the line ends before.
-#[tactic(auto, unfolding(crate::specs::Code::Built::given_tracker, crate::specs::Code::Built::given_power, crate::specs::Code::Built::behind_tracker, crate::specs::Code::Built::tracker_length))]
-fn tracker_in(words: &[u64], rate: f64, modulation: Modulation) -> Option<(Tracked, &[u64])>
+// What is left of a line behind the tracker that it begins with; none where the line ends before.
+#[tactic(auto, unfolding(crate::specs::Code::Built::behind_tracker, crate::specs::Code::Built::tracker_length))]
+fn behind_tracker(words: &[u64]) -> Option<&[u64]>
     ensures { MatchOption result
         (length words.now < tracker_length words.now)
-        (λ r. (tracker_length words.now ≤ length words.now)
-        × (r.0 ≡ given_tracker rate modulation words.now)
-        × (r.1.now ≡ behind_tracker words.now)) }
+        (λ left. (tracker_length words.now ≤ length words.now) × (left.now ≡ behind_tracker words.now)) }
 {
-    let place = ten_at(words);
-    let left = words.get(place + 10..)?;
-    let ten = rest(words, place);
+    words.get(ten_at(words) + 10..)
+}
+
+// A tracker that a line begins with. Numbers that the line does not have are 0.
+#[tactic(auto, unfolding(crate::specs::Code::Built::given_tracker, crate::specs::Code::Built::given_power))]
+fn tracker_in(words: &[u64], rate: f64, modulation: Modulation) -> Tracked
+    ensures { result ≡ given_tracker rate modulation words.now }
+{
+    let ten = rest(words, ten_at(words));
     let ekf = CarrierPllEkf {
         modulation,
         tuning: tuning_in(ten, rate),
@@ -80,7 +84,7 @@ fn tracker_in(words: &[u64], rate: f64, modulation: Modulation) -> Option<(Track
         convergence_guard: usize::at(ten, 6),
     };
     let p = covariance_in(words);
-    Some((Tracked { ekf, p }, left))
+    Tracked { ekf, p }
 }
 
 #[tactic(auto, unfolding(crate::specs::Code::Built::given_setup))]
@@ -118,35 +122,48 @@ fn reading_in(words: &[u64]) -> Reading
     }
 }
 
-// The four trackers of a channel, from the first one's first number on, and what is left of the line behind them; none where the line ends before.
-#[tactic(auto, using(std::proofs::lemmas::Bool::Decides::nat_tests), unfolding(crate::specs::Code::Built::given_trackers, crate::specs::Code::Built::are_whole, crate::specs::Code::Built::behind_trackers))]
-fn trackers_in(words: &[u64], rate: f64, m: Modulation) -> Option<(Trackers, &[u64])>
-    ensures { MatchOption result
-        (are_whole words.now ≡ false)
-        (λ r. (are_whole words.now ≡ true)
-        × (r.0 ≡ given_trackers rate m words.now)
-        × (r.1.now ≡ behind_trackers words.now)) }
+// The four trackers of a channel, from the first one's first number on.
+#[tactic(auto, unfolding(crate::specs::Code::Built::given_trackers, crate::specs::Code::Built::behind_tracker, crate::specs::Code::Built::tracker_length))]
+fn trackers_in(words: &[u64], rate: f64, m: Modulation) -> Trackers
+    ensures { result ≡ given_trackers rate m words.now }
 {
-    let (pll, left) = tracker_in(words, rate, m)?;
-    let (t0, left) = tracker_in(left, rate, m)?;
-    let (t1, left) = tracker_in(left, rate, m)?;
-    let (t2, left) = tracker_in(left, rate, m)?;
-    Some((Trackers { pll, t0, t1, t2 }, left))
+    let one = rest(words, ten_at(words) + 10);
+    let two = rest(one, ten_at(one) + 10);
+    let three = rest(two, ten_at(two) + 10);
+    Trackers {
+        pll: tracker_in(words, rate, m),
+        t0: tracker_in(one, rate, m),
+        t1: tracker_in(two, rate, m),
+        t2: tracker_in(three, rate, m),
+    }
 }
 
-// A channel that a line begins with, and what is left of the line behind it; none where the line ends before.
-#[tactic(auto, unfolding(channel_model::specs::Opening::modulation_of, crate::specs::Code::Built::given_channel, crate::specs::Code::Built::given_bank, crate::specs::Code::Built::given_setup))]
-pub fn channel_in(words: &[u64]) -> Option<(Channel, &[u64])>
+// What is left of a line behind its four trackers; none where the line ends before.
+#[tactic(auto, using(std::proofs::lemmas::Bool::Decides::nat_tests), unfolding(crate::specs::Code::Built::are_whole, crate::specs::Code::Built::behind_trackers))]
+fn behind_trackers(words: &[u64]) -> Option<&[u64]>
     ensures { MatchOption result
+        (are_whole words.now ≡ false)
+        (λ left. (are_whole words.now ≡ true) × (left.now ≡ behind_trackers words.now)) }
+{
+    let left = behind_tracker(words)?;
+    let left = behind_tracker(left)?;
+    let left = behind_tracker(left)?;
+    behind_tracker(left)
+}
+
+// A channel that a line begins with, in which numbers that the line does not have are 0; and what is left of the line behind it, none where the line ends before.
+#[tactic(auto, unfolding(channel_model::specs::Opening::modulation_of, crate::specs::Code::Built::given_channel, crate::specs::Code::Built::given_bank, crate::specs::Code::Built::given_setup))]
+pub fn channel_in(words: &[u64]) -> (Channel, Option<&[u64]>)
+    ensures channel { result.0 ≡ given_channel words.now }
+    ensures left { MatchOption result.1
         (is_whole words.now ≡ false)
-        (λ r. (is_whole words.now ≡ true)
-        × (r.0 ≡ given_channel words.now)
-        × (r.1.now ≡ behind_channel words.now)) }
+        (λ left. (is_whole words.now ≡ true) × (left.now ≡ behind_channel words.now)) }
 {
     let setup = setup_in(words);
     let rate = setup.decimated_rate();
     let m = Modulation::from(u64::at(words, 2));
-    let (h, left) = trackers_in(rest(words, 22), rate, m)?;
+    let trackers = rest(words, 22);
+    let h = trackers_in(trackers, rate, m);
     let channel = Channel {
         setup,
         status: status_in(words),
@@ -167,5 +184,5 @@ pub fn channel_in(words: &[u64]) -> Option<(Channel, &[u64])>
         is_locked: bool::at(words, 10),
         reading: reading_in(words),
     };
-    Some((channel, left))
+    (channel, behind_trackers(trackers))
 }

@@ -9,3 +9,5 @@ pub mod AngleBound
 pub mod SmallQuotient
 pub mod Range
 pub mod Cases
+pub mod SmallAngle
+pub mod Symmetry

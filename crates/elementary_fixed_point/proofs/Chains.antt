@@ -1,9 +1,9 @@
 -- A polynomial by Horner's rule in fixed point, each product's lower 64 bits dropped: how far below the exact one it is, by a table whose
 -- entries are the coefficients rounded down.
-use Rattle.std.proofs.Common.{◌≡◌, ℕ, zero, suc, ◌+◌, ◌*◌, ◌^◌, ◌<◌, ◌≤◌, Bool, true, false, ◌&&◌, T, ltb, leb, List, [], ◌∷◌, length, sym, refl, ap, ◌∙◌, subst, le_trans, le_of_eq, lt_of_le_of_lt, le_of_lt, mul-le-mul_right, mul_assoc, suc-mul, mul-pos, pow-suc, mul-zero, zero-mul, mul-add, mul_left_comm, arith, lit<, ltb→lt, leb→le, pow_pos}
+use Rattle.std.proofs.Common.{◌≡◌, ℕ, zero, suc, ◌+◌, ◌*◌, ◌^◌, ◌<◌, ◌≤◌, Bool, true, false, ◌&&◌, T, ltb, leb, List, [], ◌∷◌, length, get_or, sym, refl, ap, ◌∙◌, subst, le_trans, le_of_eq, lt_of_le_of_lt, le_of_lt, le_of_suc-le-suc, not-suc-le-zero, add-zero, add-suc, suc-add, mul-le-mul_right, mul_assoc, suc-mul, mul-pos, pow-suc, mul-zero, zero-mul, mul-add, mul_left_comm, arith, lit<, ltb→lt, leb→le, pow_pos}
 use Rattle.std.specs.List.{push}
 use lib.Ieee.Fits.{and_l, and_r}
-use Rattle.elementary_fixed_point.specs.Product.{hi, horner}
+use Rattle.elementary_fixed_point.specs.Product.{hi, horner, tabulate}
 use Rattle.elementary_fixed_point.specs.Code.Bounds.{below, Enclosure}
 use Rattle.elementary_fixed_point.proofs.Enclosures.{enclosure_cancel, enclosure_times, enclosure_add, enclosure_is, enclosure_hi, hi_le}
 
@@ -46,6 +46,12 @@ below_last k c (d ∷ cs) t = let r = below_last k c cs (and_r (ltb d k) (below 
     and_both false q x y = x
 
 -- ---- a table made by a rule has the rule's number at each place
+
+pub tabulate_at : (n i : ℕ) (f : ℕ → ℕ) (k : ℕ) → k < n → get_or (tabulate n i f) k 0 ≡ f (i + k)
+unfolding tabulate
+tabulate_at zero i f k h = absurd (not-suc-le-zero h)
+tabulate_at (suc n) i f zero h = ap f (sym (add-zero i))
+tabulate_at (suc n) i f (suc k) h = tabulate_at n (suc i) f k (le_of_suc-le-suc h) ∙ ap f (suc-add i k ∙ sym (add-suc i k))
 
 -- ---- the exact polynomial, and the chain
 

@@ -4,8 +4,9 @@ use mathlib.Core.Bool.{Bool, true, false, not, true≢false}
 use Prim.Native.Nat.{ℕ, ◌+◌, ◌*◌, ◌^◌, ◌≤◌, ◌<◌}
 use native.Mathlib.Omega.{arith}
 use lib.IntN.{ℤ}
-use lib.Dec.{T, ltb, ltb→lt, nltb→le, lt→ltb}
-use lib.Ieee.{Float, nan, inf, fin, binary64, up, down, lt, fits, of_bits}
+use lib.Dec.{T, ltb, ltb→lt, nltb→le, lt→ltb, not_T}
+use lib.Ieee.{Float, nan, inf, fin, binary64, up, down, lt, fits, is_nan, of_bits}
+use lib.Ieee.Bits.{is_false}
 use lib.Ieee.Fits.{down_pos}
 use lib.Ieee.Positive.{num, den}
 use lib.Ieee.Scale.{finite}
@@ -19,6 +20,7 @@ use Rattle.elementary_fixed_point.specs.Code.Bounds.{Fixable, nonnegative}
 use Rattle.ieee754_rounding.proofs.FormatValues.{fits_unsigned}
 use Rattle.ieee754.specs.Binary64.{two_pi, two_to_minus16}
 use Rattle.elementary_reduction.specs.Reduction.{reduced}
+use Rattle.elementary_reduction.proofs.Fractions.{turns}
 use Rattle.elementary_sincos.specs.Steps.{sine_series, cosine_series, sine, cosine}
 use Rattle.elementary_sincos.specs.Promise.{SinePromise, CosinePromise}
 use Rattle.elementary_sincos.specs.Code.Parts.{sine_from, cosine_from}
@@ -61,6 +63,23 @@ unfolding of_bits sine cosine
 of_none nan h = (refl, refl)
 of_none (inf s) h = (refl, refl)
 of_none (fin s m e) h = absurd (none-some _ h)
+
+pub not_finite : (θ : Float) → None ≡ remainder_of θ → finite θ ≡ false
+not_finite θ h = go (finite θ) h
+  where
+    go : (b : Bool) → None ≡ cond b (Some (reduced θ)) None → b ≡ false
+    go true h = absurd (none-some _ h)
+    go false h = refl
+
+-- a NaN comes back, and of an infinity the NaN is answered
+pub of_nan : (θ : Float) → is_nan θ ≡ true → (θ ≡ sine θ) × (θ ≡ cosine θ)
+unfolding is_nan sine cosine
+of_nan nan h = (refl, refl)
+of_nan (inf s) h = absurd (true≢false (sym h))
+of_nan (fin s m e) h = absurd (true≢false (sym h))
+
+pub of_infinity : (θ : Float) → finite θ ≡ false → (of_bits binary64 0x7ff8_0000_0000_0000 ≡ sine θ) × (of_bits binary64 0x7ff8_0000_0000_0000 ≡ cosine θ)
+of_infinity θ h = of_none θ (sym (ap (λ (b : Bool). cond b (Some (reduced θ)) None) h))
 
 -- from there on `r < 0.0` is the sign
 sign_is : (s : Bool) (m : ℕ) (e : ℤ) → lt (fin false m e) two_to_minus16 ≡ false → lt (fin s m e) (of_bits binary64 0) ≡ s
@@ -145,7 +164,22 @@ absolute_fits nan f = f
 absolute_fits (inf s) f = unfold fits in tt
 absolute_fits (fin s m e) f = fits_unsigned binary64 s m e f
 
+-- an angle beyond one turn is not below 2 ^ -16
+beyond_small : (θ : Float) → lt (absolute θ) two_pi ≡ false → lt (absolute θ) two_to_minus16 ≡ false
+unfolding lt of_bits absolute
+beyond_small nan h = refl
+beyond_small (inf s) h = refl
+beyond_small (fin s m e) h =
+    is_false (ltb (m * up e * 2 ^ 16) (1 * 1 * down e))
+    (not_T (ltb (m * up e * 2 ^ 16) (1 * 1 * down e)) (λ (t : T (ltb (m * up e * 2 ^ 16) (1 * 1 * down e))). none (m * up e) (down e) (ltb→lt (m * up e * 2 ^ 16) (1 * 1 * down e) t) (nltb→le (m * up e * 2 ^ 47) (turns * 1 * down e) (no h))))
+  where
+    none : (a d : ℕ) → a * 2 ^ 16 < 1 * 1 * d → turns * 1 * d ≤ a * 2 ^ 47 → ⊥
+    none a d f g = omega arith
+
 module _ (θ a : Float) (ea : a ≡ absolute θ) where
+  pub not_small : lt a two_pi ≡ false → lt (absolute θ) two_to_minus16 ≡ false
+  not_small h = beyond_small θ (subst (λ (z : Float). lt z two_pi ≡ false) ea h)
+
   -- within one turn
   pub near_requires : lt a two_pi ≡ true → Fixable a
   near_requires h = subst Fixable (sym ea) (within_fixable (absolute θ) (under_turn θ is).from (yes is))

@@ -1,7 +1,7 @@
 // Module 2 of the scope: sine and cosine of the exact remainder of an angle by 2π to 160 binary places. Within one turn that is the angle.
 #![tactic(auto)]
 
-ghost use Rattle.std.specs.Prelude.{◌≡◌, ◌*◌, ◌^◌, ◌≤◌, cond};
+ghost use Rattle.std.specs.Prelude.{◌≡◌, ◌*◌, ◌^◌, ◌≤◌, cond, false};
 ghost use Rattle.std.specs.Float.Ieee.{lt};
 ghost use Rattle.std.specs.Float.Ieee.Scale.{finite};
 ghost use Rattle.elementary_reduction.specs.Reduction as Reduction;
@@ -32,6 +32,13 @@ fn remainder(theta: f64) -> Option<u64>
     None
 }
 
+// What an angle has that has no remainder: a NaN is handed on with its bits, as C's own functions do, and an infinity has the NaN.
+fn no_number(theta: f64) -> f64
+    ensures { finite theta ≡ false → (result ≡ sine theta) × (result ≡ cosine theta) }
+{
+    if theta.is_nan() { theta } else { f64::NAN }
+}
+
 // Whether the angle is its own sine.
 #[inline(always)]
 fn is_small(theta: f64) -> bool
@@ -50,17 +57,17 @@ fn sine_at(x: u64, negative: bool) -> f64
     series::sine(x, x2, x4, negative)
 }
 
-// The sine of theta. Below 2^-16 in size, and so at a zero, it is theta itself, with its sign.
+// The sine of theta. Below 2^-16 in size, and so at a zero, it is theta itself, with its sign; this is asked first, so that no remainder is taken there.
 pub fn sin(theta: f64) -> f64
     ensures bits { result ≡ sine theta }
     ensures near { SinePromise theta result }
 {
-    let Some(x) = remainder(theta) else {
-        return f64::NAN;
-    };
     if is_small(theta) {
         return theta;
     }
+    let Some(x) = remainder(theta) else {
+        return no_number(theta);
+    };
     sine_at(x, theta < 0.0)
 }
 
@@ -70,7 +77,7 @@ pub fn cos(theta: f64) -> f64
     ensures near { CosinePromise theta result }
 {
     let Some(x) = remainder(theta) else {
-        return f64::NAN;
+        return no_number(theta);
     };
     let x2 = product::high_product(x, x);
     let x4 = product::high_product(x2, x2);

@@ -23,8 +23,13 @@ const LONGEST: usize = 8192;
 fn estimate_agrees(words: &[u64], squared: bool) -> bool
     ensures { result ≡ estimate_agrees squared words.now }
 {
+    let samples = rest(words, 2);
+    // Asked first, here and below, so that no memory is cleared for a line that has no place in it.
+    if usize::at(samples, 0) > LONGEST {
+        return false;
+    }
     let mut memory = [0.0f32; LONGEST];
-    let Some((list, left)) = list_in(rest(words, 2), &mut memory) else {
+    let Some((list, left)) = list_in(samples, &mut memory) else {
         return false;
     };
     let answer = estimate_frequency_esprit(list, squared, f64::at(words, 1));
@@ -36,8 +41,12 @@ fn estimate_agrees(words: &[u64], squared: bool) -> bool
 fn snr_agrees(words: &[u64]) -> bool
     ensures { result ≡ snr_agrees words.now }
 {
+    let samples = rest(words, 1);
+    if usize::at(samples, 0) > LONGEST {
+        return false;
+    }
     let mut memory = [0.0f32; LONGEST];
-    let Some((list, left)) = list_in(rest(words, 1), &mut memory) else {
+    let Some((list, left)) = list_in(samples, &mut memory) else {
         return false;
     };
     is_rest(left, &[estimate_snr(list)])
@@ -70,5 +79,5 @@ fn agrees(words: &[u64]) -> bool
 }
 
 fn main() {
-    vectors::replay(&mut [0; 8300], agrees);
+    vectors::replay(100_000_000, &mut [0; 8300], agrees);
 }

@@ -20,10 +20,11 @@ pub extern "C" fn gibsumac_survey(raw: &[f32]) -> u64
 pub extern "C" fn gibsumac_open(settings: Settings) -> PlainReturned
     ensures { result ≡ opened_c settings }
 {
-    let (refusal, c) = number_and_channel(channel_open::open(settings));
+    let returned = channel_open::open(settings);
+    let (refusal, c) = number_and_channel(&returned);
     PlainReturned {
         refusal,
-        channel: PlainChannel::from(c),
+        channel: PlainChannel::from(*c),
     }
 }
 
@@ -33,10 +34,11 @@ pub extern "C" fn gibsumac_assign(channel: PlainChannel, carriers: Carriers) -> 
     ensures { result ≡ assigned_c channel carriers }
 {
     let real = Channel::from(channel);
-    let (refusal, c) = number_and_channel(channel_control::assign::assign(real, carriers));
+    let returned = channel_control::assign::assign(real, carriers);
+    let (refusal, c) = number_and_channel(&returned);
     PlainReturned {
         refusal,
-        channel: given_back(refusal, channel, c),
+        channel: given_back(refusal, channel, *c),
     }
 }
 

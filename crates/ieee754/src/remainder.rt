@@ -28,16 +28,17 @@ fn places(a: u64) -> u64
     a / 0x10_0000_0000_0000 - 1
 }
 
-// m * 2 ^ k without the whole multiples of n. Eleven places at a time fit beside the digits.
+// m * 2 ^ k without the whole multiples of n. Eleven places at a time fit beside the digits; the last ones, up to eleven, are those of the last division.
 fn rest_of(m: u64, k: u64, n: u64) -> u64
     requires { (m < 2 ^ 53) × (0 < n) × (n < 2 ^ 53) }
     ensures { result ≡ m * 2 ^ k % n }
 {
+    let elevens = k.saturating_sub(1) / 11;
     let mut r = m;
-    for _ in 0..k / 11 {
+    for _ in 0..elevens {
         r = (r << 11) % n;
     }
-    (r << (k % 11)) % n
+    (r << (k - 11 * elevens)) % n
 }
 
 // The pattern, without its sign, of r * 2 ^ i units: as many of the places as there are become digits.

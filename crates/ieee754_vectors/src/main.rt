@@ -17,14 +17,14 @@ use vectors::output::Stdout;
 use vectors::tally::Tally;
 use vectors::word_of;
 
-// The result of an operation; none of a letter that stands for no operation. Letters and not an enum: each stands once, beside what it does.
+// The result of an operation; a, and any other letter, stands for the absolute value. Letters and not an enum: each stands once, beside what it does.
 #[tactic(auto, using(std::proofs::lemmas::Bool::Decides::nat_tests), unfolding(crate::specs::Code::Lines::answer))]
-fn answer(letter: u8, a: u64, b: u64, c: u64) -> Option<u64>
+fn answer(letter: u8, a: u64, b: u64, c: u64) -> u64
     ensures { result ≡ answer letter a b c }
 {
     let x = f64::of_pattern(a);
     let y = f64::of_pattern(b);
-    let result = match letter {
+    match letter {
         b's' => sqrt(x).pattern(),
         b'n' => f64_to_f32(x).pattern(),
         b'w' => f32_to_f64(f32::of_pattern(a)).pattern(),
@@ -36,23 +36,18 @@ fn answer(letter: u8, a: u64, b: u64, c: u64) -> Option<u64>
         b'e' => rem_euclid(x, y).pattern(),
         b'm' => max(x, y).pattern(),
         b'c' => clamp(x, y, f64::of_pattern(c)).pattern(),
-        b'a' => abs(x).pattern(),
-        _ => return None,
-    };
-    Some(result)
+        _ => abs(x).pattern(),
+    }
 }
 
-#[tactic(auto, unfolding(crate::specs::Code::Lines::line_agrees, crate::specs::Code::Lines::is_answer, sequences::specs::Stretches::stretch))]
+#[tactic(auto, unfolding(crate::specs::Code::Lines::line_agrees, sequences::specs::Stretches::stretch))]
 fn agrees(line: &[u8; 70]) -> bool
     ensures { result ≡ line_agrees line.now }
 {
     let a = word_of(&line[2..18]);
     let b = word_of(&line[19..35]);
     let c = word_of(&line[36..52]);
-    match answer(line[0], a, b, c) {
-        Some(result) => result == word_of(&line[53..69]),
-        None => false,
-    }
+    answer(line[0], a, b, c) == word_of(&line[53..69])
 }
 
 // No input has as many lines as the bound, which is there so that the loop is seen to end. Not `vectors::replay`: a line is text of one length here,

@@ -47,7 +47,9 @@ fn take_answer(p: Pass, b: Blocked, out: &mut [u8]) -> Judged
 }
 
 // The samples are read into a buffer of the function's own, which the channel normalises in place.
+// Not compiled into its caller, nor is `judge`: there the pass, 2,000 bytes, is copied in single bytes, and a text of short lines took 1.6 times as long.
 #[tactic(auto, unfolding(pass_setup::specs::Code::Buffers::printed_with, pass_setup::specs::Judging::block_judged, pass_reader::specs::Code::Answers::read_into))]
+#[inline(never)]
 pub fn take_block(p: Pass, line: &[u8], windows: &mut [f64], out: &mut [u8]) -> Judged
     ensures { (as_printed result out.new, windows.new) ≡ printed_with (block_judged (flag_and_samples line.now) p windows.old) out.old }
 {

@@ -1,10 +1,10 @@
 // The first three lines: names, values, names.
-ghost use Rattle.std.specs.Prelude.{◌≡◌, cond};
+ghost use Rattle.std.specs.Prelude.{◌≡◌};
 ghost use Rattle.channel_model.specs.Returns.{returned};
-ghost use Rattle.pass_reader.specs.Lines.{outside, values_line};
+ghost use Rattle.pass_reader.specs.Lines.{values_line};
 ghost use Rattle.pass_reader.specs.Code.Answers.{values_of};
 ghost use Rattle.pass_setup.specs.Opening.{settings_of, carriers_of, readied};
-ghost use Rattle.pass_setup.specs.Judging.{line_refused, line_taken, refused_or, values_judged};
+ghost use Rattle.pass_setup.specs.Judging.{line_taken, refused_or, values_judged};
 ghost use Rattle.pass_setup.specs.Code.Buffers.{printed, as_printed};
 
 use crate::pass::{Judged, OUTSIDE, Pass, Stage};
@@ -14,18 +14,17 @@ use channel_open::open;
 use ieee754::conversion::u64_to_f64;
 use pass_reader::values::{Values, values_line};
 
-// A line of names: whether it is the one that has to stand here.
-#[tactic(auto, using(crate::proofs::LineCases::taken_printed))]
-pub fn take_names(p: Pass, stands: bool, next: Stage, out: &mut [u8]) -> Judged
-    ensures { as_printed result out.new ≡ printed (cond stands (line_taken next p.channel p) (line_refused outside p)) out.old }
+// A line of names, by its refusal number: 0 where it is the one that has to stand here.
+#[tactic(auto, using(crate::proofs::LineCases::taken_printed), unfolding(crate::specs::Judging::refused_or))]
+pub fn take_names(p: Pass, refusal: u64, next: Stage, out: &mut [u8]) -> Judged
+    ensures { as_printed result out.new ≡ printed (refused_or refusal p (line_taken next p.channel p)) out.old }
 {
-    if stands {
-        Judged {
-            pass: p.take(next, p.channel),
-            added: 0,
-        }
-    } else {
-        p.refuse(OUTSIDE, out)
+    if refusal != 0 {
+        return p.refuse(refusal, out);
+    }
+    Judged {
+        pass: p.take(next, p.channel),
+        added: 0,
     }
 }
 

@@ -190,6 +190,9 @@ module _ (p : Pass) (held out : List ℕ) (j : Judged) (out' : List ℕ) (e : as
 
 -- ---- the first bytes
 
+pub short_names : length names_text ≤ longest
+short_names = let z : length names_text ≡ 46 = refl in omega arith
+
 pub begun : (p : Pass) (made : List ℕ) → p ≡ new_pass → made ≡ names_text → Begun p made
 unfolding list_of
 begun p made q m text =

@@ -2,4 +2,5 @@
 pub mod DigitLaws
 pub mod LaidLaws
 pub mod WrittenLaws
+pub mod TextLengths
 pub mod WorkedLines

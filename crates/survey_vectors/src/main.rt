@@ -8,12 +8,19 @@ ghost use Rattle.survey_vectors.specs.Code.Lines.{samples_agree, line_agrees};
 use survey::survey;
 use vectors::line::{Word, is_rest, list_in, rest};
 
+// The longest list.
+const LONGEST: usize = 8192;
+
 // Whether behind the samples stands the port's flag of them, at the line's end.
 #[tactic(auto, using(std::proofs::lemmas::Bool::Decides::nat_tests), unfolding(crate::specs::Code::Lines::samples_agree, crate::specs::Code::Lines::flag_of))]
 fn samples_agree(words: &[u64]) -> bool
     ensures { result ≡ samples_agree words.now }
 {
-    let mut memory = [0.0f32; 8192];
+    // Asked first, so that no memory is cleared for a line that has no place in it.
+    if usize::at(words, 0) > LONGEST {
+        return false;
+    }
+    let mut memory = [0.0f32; LONGEST];
     let Some((list, left)) = list_in(words, &mut memory) else {
         return false;
     };
@@ -28,5 +35,5 @@ fn agrees(words: &[u64]) -> bool
 }
 
 fn main() {
-    vectors::replay(&mut [0; 8300], agrees);
+    vectors::replay(1_000_000, &mut [0; 8300], agrees);
 }

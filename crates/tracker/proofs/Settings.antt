@@ -10,7 +10,7 @@ use Rattle.tracker_covariance.specs.declared.states.Band.TheVariants.{First, Sec
 use Rattle.tracker_covariance.specs.States.{phase_of}
 use Rattle.tracker_measurement.specs.Measurement.{measured}
 use Rattle.tracker.specs.declared.state.CarrierPllEkf.{CarrierPllEkf}
-use Rattle.tracker.specs.State.{tracker_of, zero_state, no_power, with_envelope}
+use Rattle.tracker.specs.State.{tracker_of, zero_state, no_power, with_envelope, reset_to}
 use Rattle.tracker.specs.Prediction.{predicted_over}
 use Rattle.tracker.specs.Correction.{pair_or_lost, prior_of, windowed, band_corrected}
 use Rattle.tracker.specs.Update.{second_by, updated, second_corrected, updated_dual}
@@ -71,3 +71,7 @@ dual_keeps t p w re1 im1 re2 im2 =
 pub predicted_keeps : (dt : Float) (t : CarrierPllEkf) (p : List Float) → Keeps t (predicted_over dt t p).ekf
 unfolding predicted_over
 predicted_keeps dt t p = none_changed t _ refl
+
+pub reset_keeps : (t : CarrierPllEkf) (phase hz rate : Float) → Keeps t (reset_to t phase hz rate).ekf
+unfolding reset_to
+reset_keeps t phase hz rate = none_changed t _ refl

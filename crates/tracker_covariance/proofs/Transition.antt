@@ -9,7 +9,8 @@ use lib.ListN.{get_or, set}
 use lib.Ieee.{Float, nan}
 use Rattle.ieee754.specs.Binary64.{plus, times, half}
 use Rattle.tracker_covariance.specs.Matrix.{at}
-use Rattle.tracker_covariance.specs.Transition.{moved, row, dot, by_f, by_ft}
+use Rattle.tracker_covariance.specs.Transition.{row, dot, by_f, by_ft}
+use Rattle.tracker_covariance.specs.Code.Moved.{moved}
 use Rattle.tracker_covariance.specs.Code.Transposed.{transposed}
 use Rattle.tracker_covariance.proofs.Filling.{Rows, store_row}
 use Rattle.tracker_covariance.proofs.Entries.{matrix_at, matrix_ext}

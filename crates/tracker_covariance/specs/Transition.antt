@@ -10,12 +10,6 @@ pub data Term : Type 0 where
   unit : ℕ → Term
   factor : Float → ℕ → Term
 
--- F on the phase p, the frequency f and the chirp c of one channel
-abbrev pub moved : Float → Float → Float → Float → List Float
-moved dt p f c =
-    let dt2 = times (times half dt) dt in
-    plus (plus p (times dt f)) (times dt2 c) ∷ plus f (times dt c) ∷ c ∷ []
-
 -- the rows of F
 abbrev pub rows : Float → List (List Term)
 rows dt =

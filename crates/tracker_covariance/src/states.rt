@@ -1,8 +1,9 @@
 // The six states: phase, frequency and chirp of the first channel, then of the second.
 ghost use Rattle.std.specs.Prelude.{◌≡◌};
 ghost use Rattle.tracker_covariance.specs.States.{phase_of};
-ghost use Rattle.tracker_covariance.specs.Transition.{moved, predicted_state};
+ghost use Rattle.tracker_covariance.specs.Transition.{predicted_state};
 ghost use Rattle.tracker_covariance.specs.Correction.{corrected_state};
+ghost use Rattle.tracker_covariance.specs.Code.Moved.{moved};
 ghost use Rattle.tracker_covariance.specs.declared.states.Band.{Band};
 ghost use Rattle.tracker_covariance.specs.declared.states.Band.TheVariants.{First, Second};
 

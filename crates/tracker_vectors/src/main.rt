@@ -120,5 +120,5 @@ fn agrees(words: &[u64]) -> bool
 }
 
 fn main() {
-    vectors::replay(&mut [0; 8300], agrees);
+    vectors::replay(100_000_000, &mut [0; 8300], agrees);
 }

@@ -29,7 +29,7 @@ pub fn digit(b: u8) -> u64
 
 // One digit more; of more than 16 digits only the last 16 count.
 #[tactic(auto, unfolding(crate::specs::Code::Words::with_digit))]
-fn with_digit(v: u64, b: u8) -> u64
+pub fn with_digit(v: u64, b: u8) -> u64
     ensures { result ≡ with_digit v b }
 {
     v % 0x1000_0000_0000_0000 * 16 + digit(b)
@@ -88,13 +88,13 @@ pub fn next_line(words: &mut [u64]) -> Option<&[u64]>
     Some(&words[..n])
 }
 
-// Decides each line of standard input, says which differ, and at the end how many. Of a line as many numbers are read as the lent list holds.
-// No input has as many lines as the bound, which is there so that the loop is seen to end.
-pub fn replay<F: FnMut(&[u64]) -> bool>(words: &mut [u64], mut agrees: F)
+// Decides each line of standard input, up to `most` of them, says which differ, and at the end how many. Of a line as many numbers are read as the lent list
+// holds. (The bound is there so that the loop is seen to end.)
+pub fn replay<F: FnMut(&[u64]) -> bool>(most: u32, words: &mut [u64], mut agrees: F)
     requires { F.IsAlwaysCallable agrees }
 {
     let mut t = Tally::default();
-    for _ in 0..100_000_000u32 {
+    for _ in 0..most {
         let Some(line) = next_line(words) else {
             break;
         };

@@ -1,6 +1,6 @@
 -- Lines that look at no window memory: whether the line agrees, and what becomes of the channel. A line begins with its kind, at place 0; from place 1 on stand
 -- what is given and then the Rust's answer, to the line's end. Definitions only.
-use Rattle.std.specs.Prelude.{ℕ, Bool, false, cond, List, [], ◌∷◌, map, drop}
+use Rattle.std.specs.Prelude.{ℕ, Bool, ◌&&◌, List, [], ◌∷◌, map, drop}
 use Rattle.std.specs.Float.{binary32}
 use Rattle.std.specs.Float.Ieee.{to_bits}
 use Rattle.vectors.specs.Code.Lines.{is_rest, ends_at}
@@ -17,9 +17,9 @@ use Rattle.channel_words.specs.Code.Standing.{standing_words}
 unfoldable pub open_line : List ℕ → Bool × Channel
 open_line words = let r = opened (given_settings (drop 1 words)) in (is_rest (r.refusal ∷ []) (drop 10 words), r.channel)
 
--- 4 build: a channel as it is given; no answer. A line that ends before the channel does leaves the channel as it is
-unfoldable pub build_line : List ℕ → Channel → Bool × Channel
-build_line words c = let given = drop 1 words in cond (is_whole given) (ends_at 0 (behind_channel given), given_channel given) (false, c)
+-- 4 build: a channel as it is given, in which numbers that the line does not have are 0; no answer
+unfoldable pub build_line : List ℕ → Bool × Channel
+build_line words = let given = drop 1 words in (is_whole given && ends_at 0 (behind_channel given), given_channel given)
 
 -- 5 assign: four carriers; the refusal
 unfoldable pub assign_line : List ℕ → Channel → Bool × Channel

@@ -17,7 +17,7 @@ by_kind kind words c w =
     (cond (eqb kind 1) (ends_at 2 words, c, filled (number_at 1 words) w)
     (cond (eqb kind 2) (ends_at 3 words, c, poked (number_at 1 words) (float64_at 2 words) w)
     (cond (eqb kind 3) (beside w (open_line words))
-    (cond (eqb kind 4) (beside w (build_line words c))
+    (cond (eqb kind 4) (beside w (build_line words))
     (cond (eqb kind 5) (beside w (assign_line words c))
     (cond (eqb kind 6) (listed_line words c w)
     (cond (eqb kind 7) (beside w (release_line words c))

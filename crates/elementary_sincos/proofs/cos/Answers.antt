@@ -1,13 +1,13 @@
 -- `cos`, by its remainder.
 use mathlib.Core.Path.{◌∙◌}
-use Rattle.elementary_sincos.proofs.Cases.{known, most, of_none, of_cosine, fourth_below, cosine_from_lem, cosine_promised}
+use Rattle.elementary_sincos.proofs.Cases.{known, most, not_finite, of_cosine, fourth_below, cosine_from_lem, cosine_promised}
 use Rattle.elementary_sincos.proofs.cos.Goals as goal
 
 pub returns-in_default-clause-bits : goal.returns-in_default-clause-bits
-returns-in_default-clause-bits c = (of_none c.args.theta c.in_default.ensures).1
+returns-in_default-clause-bits c = (c.no_number.ensures (not_finite c.args.theta c.in_default.ensures)).1
 
 pub returns-in_default-clause-near : goal.returns-in_default-clause-near
-returns-in_default-clause-near c = cosine_promised c.args.theta _ (of_none c.args.theta c.in_default.ensures).1
+returns-in_default-clause-near c = cosine_promised c.args.theta _ (c.no_number.ensures (not_finite c.args.theta c.in_default.ensures)).1
 
 pub cosine-requires : goal.cosine-requires
 cosine-requires c =

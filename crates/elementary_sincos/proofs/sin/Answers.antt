@@ -1,13 +1,13 @@
 -- `sin`, by its remainder.
 use mathlib.Core.Path.{sym}
-use Rattle.elementary_sincos.proofs.Cases.{known, most, of_none, of_small, of_large, sine_promised}
+use Rattle.elementary_sincos.proofs.Cases.{known, most, not_finite, of_small, of_large, sine_promised}
 use Rattle.elementary_sincos.proofs.sin.Goals as goal
 
 pub returns-in_default-clause-bits : goal.returns-in_default-clause-bits
-returns-in_default-clause-bits c = (of_none c.args.theta c.in_default.ensures).0
+returns-in_default-clause-bits c = (c.no_number.ensures (not_finite c.args.theta c.in_default.ensures)).0
 
 pub returns-in_default-clause-near : goal.returns-in_default-clause-near
-returns-in_default-clause-near c = sine_promised c.args.theta _ (of_none c.args.theta c.in_default.ensures).0
+returns-in_default-clause-near c = sine_promised c.args.theta _ (c.no_number.ensures (not_finite c.args.theta c.in_default.ensures)).0
 
 pub returns-then-is_small-clause-bits : goal.returns-then-is_small-clause-bits
 returns-then-is_small-clause-bits c = of_small c.args.theta (sym c.if-is_small.ensures)

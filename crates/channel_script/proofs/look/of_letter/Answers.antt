@@ -9,8 +9,8 @@ use Rattle.channel_script.proofs.look.of_letter.Goals as goal
 pub returns : goal.returns
 returns c =
     let a = c.args in
-    let f = c.found-3.ensures ∙ ap (found a.letter) (c.figure_names.ensures ∙ ap (λ (l : List Float). figure_names l a.e.figures) c.figures.ensures) in
-    let o1 = c.or.ensures ∙ (λ j. option_or ((c.found.ensures ∙ ap (found a.letter) c.seen_names.ensures) j) ((c.found-2.ensures ∙ ap (found a.letter) c.channel_names.ensures) j)) in
+    let f = c.in_figures.ensures ∙ ap (λ (l : List Float). found a.letter (figure_names l a.e.figures)) c.figures.ensures in
+    let o1 = c.or.ensures ∙ (λ j. option_or (c.in_seen.ensures j) (c.in_channel.ensures j)) in
     let o2 = c.or-2.ensures ∙ (λ j. option_or (o1 j) (f j)) in
-    let o3 = c.or-3.ensures ∙ (λ j. option_or (o2 j) ((c.found-4.ensures ∙ ap (found a.letter) c.answer_names.ensures) j)) in
-    c.or-4.ensures ∙ (λ j. option_or (o3 j) (c.of_before.ensures j)) ∙ one_letter_lem a.e a.c a.letter
+    let o3 = c.or-3.ensures ∙ (λ j. option_or (o2 j) (c.in_answer.ensures j)) in
+    c.or-4.ensures ∙ (λ j. option_or (o3 j) (c.in_before.ensures j)) ∙ one_letter_lem a.e a.c a.letter

@@ -1,11 +1,10 @@
--- `set_by_start` meets its contract: each call makes one number. Assumes nothing.
-use Rattle.std.proofs.Common.{◌≡◌, length, rules}
-use Rattle.vectors.proofs.Made.{made_by}
-use Rattle.channel_vectors.specs.Code.Memory.{sixty_fourths, filled}
+-- `set_by_start` meets its contract: one turn. Assumes nothing.
+use native.Mathlib.Omega.{arith}
+use lib.ListN.{length-set}
+use Rattle.vectors.proofs.LineLaws.{fill_next}
 use Rattle.channel_vectors.proofs.memory.set_by_start.Goals as goal
 
-pub returns : goal.returns
-unfolding filled
-returns c =
-    let n : length c.args.windows.now ≡ 8193 = search rules in
-    rw n (made_by (sixty_fourths c.args.start) _ _ (λ i y q h. (search rules, search rules)) _ 8193 c.from_fn.ensures.items)
+pub loop-i-preserved : goal.loop-i-preserved
+loop-i-preserved c =
+    let l = c.loop-i in
+    (fill_next _ l.windows l.i (omega arith) c.sixty_fourths.ensures l.invariant.0, simp length-set l.invariant.1)

@@ -1,5 +1,5 @@
 -- `rest_of`: of a number with the same rest, a few places more have the same rest too.
-use Rattle.std.proofs.Common.{◌≡◌, ℕ, ◌+◌, ◌*◌, ◌/◌, ◌%◌, ◌^◌, ◌<◌, ◌≤◌, sym, ap, ◌∙◌, arith, mod-lt, mod-eq_of_lt, mul_assoc, pow-add, pow_mono, lt_of_lt_of_le, shl_lt}
+use Rattle.std.proofs.Common.{◌≡◌, ℕ, ◌+◌, ◌-◌, ◌*◌, ◌/◌, ◌%◌, ◌^◌, ◌<◌, ◌≤◌, sym, ap, ◌∙◌, arith, mod-lt, mod-eq_of_lt, mul_assoc, pow-add, pow_mono, lt_of_lt_of_le, shl_lt}
 use Rattle.std.proofs.Math.Nat.{mod-mod}
 use Rattle.std.proofs.lemmas.Nat.{mul-mod_first}
 use Rattle.ieee754.proofs.remainder.rest_of.Goals as goal
@@ -21,11 +21,11 @@ next : (i : ℕ) → 11 * i + 11 ≡ 11 * (i + 1)
 next i = omega arith
 
 -- the places that the loop left
-all : (i k : ℕ) → i ≤ k / 11 → k / 11 ≤ i → 11 * i + k % 11 ≡ k
-all i k h g = omega arith
+all : (i e k : ℕ) → i ≤ e → e ≤ i → e ≡ (k - 1) / 11 → 11 * i + (k - 11 * e) ≡ k
+all i e k h g q = omega (arith, q)
 
-few : (k : ℕ) → k % 11 ≤ 11
-few k = omega arith
+few : (e k : ℕ) → e ≡ (k - 1) / 11 → k - 11 * e ≤ 11
+few e k q = omega (arith, q)
 
 pub loop-preserved : goal.loop-preserved
 loop-preserved c =
@@ -37,5 +37,7 @@ loop-preserved c =
 pub returns : goal.returns
 returns c =
     let l = c.loop in
-    more l.r c.args.m (11 * l.counter) (c.args.k % 11) c.args.n l.invariant.0 (few c.args.k) l.invariant.1
-    ∙ ap (λ z. c.args.m * 2 ^ z % c.args.n) (all l.counter c.args.k l.auto.counter-end c.loop-test.false)
+    let e = c.saturating_sub-elevens.result / 11 in
+    let q : e ≡ (c.args.k - 1) / 11 = ap (λ z. z / 11) c.saturating_sub-elevens.ensures in
+    more l.r c.args.m (11 * l.counter) (c.args.k - 11 * e) c.args.n l.invariant.0 (few e c.args.k q) l.invariant.1
+    ∙ ap (λ z. c.args.m * 2 ^ z % c.args.n) (all l.counter e c.args.k l.auto.counter-end c.loop-test.false q)
