@@ -1,6 +1,6 @@
 // What is looked at in a session: tables of letters, each with the number that it stands for, a mark as 0 or 1.
 // Not an enum of what is looked at: each of its 35 names would be declared, made of its letter and matched, where it now has one line. Nor an array of pairs,
-// of which all numbers would be made to look at one: a word took 1.9 times as many instructions.
+// of which all numbers would be made to look at one: a text of such names took 1.2 times as many instructions.
 ghost use Rattle.std.specs.Prelude.{◌≡◌, map};
 ghost use Rattle.channel_script.specs.Code.Letters.{found};
 ghost use Rattle.channel_script.specs.Code.Looking as meant;

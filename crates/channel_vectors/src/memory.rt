@@ -12,7 +12,7 @@ fn sixty_fourths(start: u64, i: usize) -> f64
     u64_to_f64((k % 64 * 7 + start % 64) % 64) / 64.0
 }
 
-// In its place: of an array that is made and then copied a line took 2.7 times as many instructions.
+// In its place: of an array that is made and then copied a line took 2.8 times as many instructions.
 #[tactic(auto, using(vectors::proofs::LineLaws::fill_end), unfolding(crate::specs::Code::Memory::filled, vectors::specs::Code::Lines::from_place))]
 pub fn set_by_start(windows: &mut [f64; 8193], start: u64)
     ensures { windows.new ≡ filled start windows.old }
